@@ -1,0 +1,5 @@
+mod Above
+mod Sizes
+mod Rounding
+mod Ranges
+mod InRange
