@@ -5,3 +5,4 @@ pub mod Bid
 pub mod Kilowatts
 pub mod Reading
 pub mod Trapezium
+pub mod Live

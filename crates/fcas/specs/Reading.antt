@@ -5,6 +5,9 @@ use mathlib.Core.List.{List, [], _∷_}
 use lib.Dec.{eqb, leb}
 use Rattle.fcas.specs.Checks.{Finding}
 use Rattle.fcas.specs.Kilowatts.{zeroMw, mostRampMw, mostMw, leastMw, within, withinIf, kilowattsOf, kilowattsIf}
+use Rattle.std.specs.Options.{isSome}
+use Rattle.fcas.specs.declared.kind.Kind.{Kind}
+use Rattle.fcas.specs.declared.kind.Kind.the-variants.{Generator, SemiScheduled, Load, DemandResponse}
 use Rattle.fcas.specs.declared.reading.AgcStatus.{AgcStatus}
 use Rattle.fcas.specs.declared.reading.AgcStatus.the-variants.{NotTold, On, Off}
 use Rattle.fcas.specs.declared.reading.Measured.{Measured}
@@ -41,3 +44,10 @@ measuredOf r = record {
   «energy_max» = r .«energy_max»;
   «agc_status» = agcStatus (r .«agc_status»);
 }
+
+-- A semi-scheduled unit is not opened without its forecast.
+abbrev pub forecastFaults : Kind → Measured → List Finding
+forecastFaults Generator m = []
+forecastFaults SemiScheduled m = (24, not (isSome (m .uigf))) ∷ []
+forecastFaults Load m = []
+forecastFaults DemandResponse m = []

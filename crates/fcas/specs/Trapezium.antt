@@ -73,24 +73,22 @@ roundedDown (negsuc n) d = negsuc (n / d)
 abbrev pub roundedUp : ℤ → ℕ → ℤ
 roundedUp z d = negℤ (roundedDown (negℤ z) d)
 
--- The enablement maximum, less the upper slope times the maximum availability, rounded down. It may lie below zero. Without a slope it is the enablement maximum.
-unfoldable pub highBreakpoint : Kind → ℕ → Bid → Measured → ℤ
-highBreakpoint kind service bid m =
-    cond (eqb (bid .«max_availability») 0) (pos (enablementMax kind service bid m))
-    (roundedDown (pos (bid .«max_availability») *ℤ pos (enablementMax kind service bid m) -ℤ pos (upperRun bid) *ℤ pos (maxAvailability kind service bid m)) (bid .«max_availability»))
+-- The high breakpoint, for a bid's maximum availability and upper run and the effective enablement maximum and maximum availability: the enablement maximum less the slope times the availability, rounded down. It may lie below zero. A bid of no availability has no slope, and the two are equal.
+abbrev pub highBreakpoint : ℕ → ℕ → ℕ → ℕ → ℤ
+highBreakpoint bidAvailability run enablement availability =
+    cond (eqb bidAvailability 0) (pos enablement) (roundedDown (pos bidAvailability *ℤ pos enablement -ℤ pos run *ℤ pos availability) bidAvailability)
 
--- The enablement minimum and the lower slope times the maximum availability, rounded up.
-unfoldable pub lowBreakpoint : Kind → ℕ → Bid → Measured → ℤ
-lowBreakpoint kind service bid m =
-    cond (eqb (bid .«max_availability») 0) (pos (enablementMin service bid m))
-    (roundedUp (pos (bid .«max_availability») *ℤ pos (enablementMin service bid m) +ℤ pos (lowerRun bid) *ℤ pos (maxAvailability kind service bid m)) (bid .«max_availability»))
+-- The low breakpoint, likewise: the enablement minimum and the lower slope times the availability, rounded up.
+abbrev pub lowBreakpoint : ℕ → ℕ → ℕ → ℕ → ℤ
+lowBreakpoint bidAvailability run enablement availability =
+    cond (eqb bidAvailability 0) (pos enablement) (roundedUp (pos bidAvailability *ℤ pos enablement +ℤ pos run *ℤ pos availability) bidAvailability)
 
 -- The five effective numbers of a service.
 abbrev pub trapeziumOf : Kind → ℕ → Bid → Measured → Trapezium
 trapeziumOf kind service bid m = record {
   «enablement_min» = enablementMin service bid m;
-  «low_breakpoint» = lowBreakpoint kind service bid m;
-  «high_breakpoint» = highBreakpoint kind service bid m;
+  «low_breakpoint» = lowBreakpoint (bid .«max_availability») (lowerRun bid) (enablementMin service bid m) (maxAvailability kind service bid m);
+  «high_breakpoint» = highBreakpoint (bid .«max_availability») (upperRun bid) (enablementMax kind service bid m) (maxAvailability kind service bid m);
   «enablement_max» = enablementMax kind service bid m;
   «max_availability» = maxAvailability kind service bid m;
 }

@@ -2,6 +2,7 @@
 mod bid;
 mod kilowatts;
 mod kind;
+mod live;
 mod reading;
 mod refusal;
 mod service;
@@ -10,6 +11,7 @@ mod trapezium;
 pub use bid::Bid;
 pub use bid::CheckedBid;
 pub use kind::Kind;
+pub use live::Ground;
 pub use reading::AgcStatus;
 pub use reading::CheckedReading;
 pub use reading::Measured;

@@ -5,7 +5,7 @@ ghost use lib.Signed.{_≤ℤ_};
 ghost use mathlib.Core.Bool.{true};
 ghost use mathlib.Core.Path.{_≡_};
 ghost use Rattle.fcas.specs.Checks.{Checked};
-ghost use Rattle.fcas.specs.Reading.{agcStatus, inRange, measuredOf, readingFaults};
+ghost use Rattle.fcas.specs.Reading.{agcStatus, forecastFaults, inRange, measuredOf, readingFaults};
 ghost use Rattle.std.specs.Options.{valueOr};
 use crate::kilowatts::LEAST_MW;
 use crate::kilowatts::MOST_MW;
@@ -14,6 +14,8 @@ use crate::kilowatts::absent_or_within;
 use crate::kilowatts::kilowatts;
 use crate::kilowatts::kilowatts_if_present;
 use crate::kilowatts::within;
+use crate::kind::Kind;
+use crate::kind::KindPartialEq;
 use crate::refusal::Refusal;
 
 // A reading as it is handed over. The floats are megawatts, the ramps megawatts a minute; the energy maximum is in kilowatts. UIGF is the forecast of a semi-scheduled unit.
@@ -109,5 +111,15 @@ impl CheckedReading {
             agc_status: AgcStatus::from_number(reading.agc_status),
         };
         Ok(CheckedReading { measured })
+    }
+
+    // A unit of the kind can be opened by this reading: a semi-scheduled one needs its forecast.
+    pub fn check_forecast(&self, kind: Kind) -> Result<(), Refusal>
+        ensures { λ r. ⌜ Checked (forecastFaults kind (now (self .entry) .measured)) (λ _. Unit {0}) r ⌝ }
+    {
+        if kind == Kind::SemiScheduled && self.measured.uigf.is_none() {
+            return Err(Refusal::ForecastMissing);
+        }
+        Ok(())
     }
 }
