@@ -34,7 +34,6 @@ product-sized s n (fin false m e) N h =
     (round-sized false (n * 1000) (m * up e * 1000) (down e * 1) N (mul-pos (down-pos e) (zero-lt-suc 0)) (scaled (m * up e) n (down e) (h .1)))
 
 thousandfold-sized : (s : Bool) (n : ℕ) (x : Float) → n * 1000 ≤ 2 ^ 53 → Size s n x → Size s (n * 1000) (thousandfold x)
-unfolding thousandfold
 thousandfold-sized s n x N h = subst (λ (z : Float). Size s (n * 1000) (mul binary64 x z)) (sym is-thousand) (product-sized s n x N h)
 
 -- ---- the nearest whole number
@@ -53,7 +52,7 @@ pub record Whole (s : Bool) (n : ℕ) (y : Float) : Type 0 where
   pub is : y ≡ round binary64 s number 1
 
 nearest-whole : (s : Bool) (n : ℕ) (y : Float) → Size s n y → Whole s n (nearestWhole y)
-unfolding nearestWhole wholeBy
+unfolding wholeBy
 nearest-whole s n nan h = absurd h
 nearest-whole s n (inf t) h = absurd h
 nearest-whole s n (fin true m e) h = record {

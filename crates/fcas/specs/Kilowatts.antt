@@ -34,11 +34,11 @@ withinIf low high None = true
 withinIf low high (Some x) = within low high x
 
 -- One multiplication by 1,000, rounded once.
-unfoldable pub thousandfold : Float → Float
+abbrev pub thousandfold : Float → Float
 thousandfold x = mul binary64 x thousand
 
 -- The nearest whole number, an exact half going away from zero.
-unfoldable pub nearestWhole : Float → Float
+abbrev pub nearestWhole : Float → Float
 nearestWhole x = roundAway binary64 x
 
 -- The whole kilowatts of a power in megawatts.

@@ -9,7 +9,7 @@ use crate::refusal::Refusal;
 const MOST: u32 = 4_000_000;
 
 // A bid as it is handed over, in kilowatts.
-#[derive(Clone, Copy, PartialEq, Eq, Debug)]
+#[derive(Clone, Copy)]
 pub struct Bid {
     pub enablement_min: u32,
     pub low_breakpoint: u32,
@@ -31,7 +31,7 @@ pub struct CheckedBid {
 }
 
 // Whether some number is above the limit.
-pub fn some_above(limit: u32, numbers: &[u32]) -> bool
+pub(crate) fn some_above(limit: u32, numbers: &[u32]) -> bool
     ensures { λ r. ⌜ r ≡ someAbove limit (now (numbers .entry)) ⌝ }
 {
     for number in numbers {

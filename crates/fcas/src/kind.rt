@@ -5,7 +5,7 @@ ghost use Rattle.fcas.specs.Kind.{downward as downward-of, kindFaults, kindNum
 use crate::refusal::Refusal;
 use crate::service::Service;
 
-#[derive(Clone, Copy, PartialEq, Eq, Debug)]
+#[derive(Clone, Copy)]
 pub enum Kind {
     Generator,
     SemiScheduled,

@@ -15,7 +15,7 @@ use crate::trapezium::at_most;
 use crate::trapezium::forecast_of;
 
 // What keeps a service out.
-#[derive(Clone, Copy, PartialEq, Eq, Debug)]
+#[derive(Clone, Copy)]
 pub enum Ground {
     NoBid,
     NoAvailability,
@@ -89,7 +89,9 @@ impl Ground {
 
     // The lowest ground against a service, or nothing where it is live.
     pub fn against(kind: Kind, service: Service, bid: Option<&CheckedBid>, reading: &CheckedReading) -> Option<Ground>
-        ensures { λ r. ⌜ mapped groundNumber r ≡ groundOf kind (service .number) (mapped (λ held. now {X = CheckedBid} held .bid) (bid .entry)) (now (reading .entry) .measured) ⌝ }
+        ensures value { λ r. ⌜ mapped groundNumber r ≡ groundOf kind (service .number) (mapped (λ held. now {X = CheckedBid} held .bid) (bid .entry)) (now (reading .entry) .measured) ⌝ }
+        ensures bid_kept { λ _. ⌜ mapped (now {X = CheckedBid}) (bid .exit) ≡ mapped now (bid .entry) ⌝ }
+        ensures reading_kept { λ _. ⌜ now (reading .exit) ≡ now (reading .entry) ⌝ }
     {
         match bid {
             Some(bid) => Ground::against_bid(kind, service, bid, reading),

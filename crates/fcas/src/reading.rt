@@ -15,7 +15,6 @@ use crate::kilowatts::kilowatts;
 use crate::kilowatts::kilowatts_if_present;
 use crate::kilowatts::within;
 use crate::kind::Kind;
-use crate::kind::KindPartialEq;
 use crate::refusal::Refusal;
 
 // A reading as it is handed over. The floats are megawatts, the ramps megawatts a minute; the energy maximum is in kilowatts. UIGF is the forecast of a semi-scheduled unit.
@@ -95,7 +94,8 @@ impl Reading {
 
 impl CheckedReading {
     pub fn new(reading: &Reading) -> Result<CheckedReading, Refusal>
-        ensures { λ r. ⌜ Checked (readingFaults (now (reading .entry))) (λ checked. checked .measured ≡ measuredOf (now (reading .entry))) r ⌝ }
+        ensures value { λ r. ⌜ Checked (readingFaults (now (reading .entry))) (λ checked. checked .measured ≡ measuredOf (now (reading .entry))) r ⌝ }
+        ensures kept { λ _. ⌜ now (reading .exit) ≡ now (reading .entry) ⌝ }
     {
         if !reading.is_in_range() {
             return Err(Refusal::ReadingOutOfRange);
@@ -115,11 +115,12 @@ impl CheckedReading {
 
     // A unit of the kind can be opened by this reading: a semi-scheduled one needs its forecast.
     pub fn check_forecast(&self, kind: Kind) -> Result<(), Refusal>
-        ensures { λ r. ⌜ Checked (forecastFaults kind (now (self .entry) .measured)) (λ _. Unit {0}) r ⌝ }
+        ensures value { λ r. ⌜ Checked (forecastFaults kind (now (self .entry) .measured)) (λ _. Unit {0}) r ⌝ }
+        ensures kept { λ _. ⌜ now (self .exit) ≡ now (self .entry) ⌝ }
     {
-        if kind == Kind::SemiScheduled && self.measured.uigf.is_none() {
-            return Err(Refusal::ForecastMissing);
+        match (kind, self.measured.uigf) {
+            (Kind::SemiScheduled, None) => Err(Refusal::ForecastMissing),
+            _ => Ok(()),
         }
-        Ok(())
     }
 }

@@ -5,7 +5,7 @@ ghost use Rattle.fcas.specs.Checks.{Checked};
 ghost use Rattle.fcas.specs.Service.{regulating, serviceFaults};
 use crate::refusal::Refusal;
 
-#[derive(Clone, Copy, PartialEq, Eq, Debug)]
+#[derive(Clone, Copy)]
 pub struct Service {
     pub number: u8,
     ghost one_of_ten: { number < 10 },

@@ -50,7 +50,7 @@ fn at_least(limit: Option<u32>, number: u32) -> u32
     }
 }
 
-pub fn at_most(limit: Option<u32>, number: u32) -> u32
+pub(crate) fn at_most(limit: Option<u32>, number: u32) -> u32
     ensures { λ r. ⌜ r ≡ atMost limit number ⌝ }
 {
     match limit {
@@ -108,7 +108,7 @@ fn scaled_by_ramp(envelope: Envelope, ramp: Option<u32>) -> Envelope
 }
 
 // The forecast that bears on a unit of the kind.
-pub fn forecast_of(kind: Kind, reading: &CheckedReading) -> Option<u32>
+pub(crate) fn forecast_of(kind: Kind, reading: &CheckedReading) -> Option<u32>
     ensures { λ r. ⌜ r ≡ forecastOf kind (now (reading .entry) .measured) ⌝ }
 {
     match kind {
@@ -136,6 +136,8 @@ impl Envelope {
         ensures min { λ r. ⌜ r .«enablement_min» ≡ enablementMin (service .number) (now (bid .entry) .bid) (now (reading .entry) .measured) ⌝ }
         ensures max { λ r. ⌜ r .«enablement_max» ≡ enablementMax kind (service .number) (now (bid .entry) .bid) (now (reading .entry) .measured) ⌝ }
         ensures availability { λ r. ⌜ r .«max_availability» ≡ maxAvailability kind (service .number) (now (bid .entry) .bid) (now (reading .entry) .measured) ⌝ }
+        ensures bid_kept { λ _. ⌜ now (bid .exit) ≡ now (bid .entry) ⌝ }
+        ensures reading_kept { λ _. ⌜ now (reading .exit) ≡ now (reading .entry) ⌝ }
     {
         let offered = Envelope {
             enablement_min: bid.bid.enablement_min,
@@ -204,7 +206,9 @@ impl Trapezium {
 
     // The five effective numbers of a service.
     pub fn new(kind: Kind, service: Service, bid: &CheckedBid, reading: &CheckedReading) -> Trapezium
-        ensures { λ r. ⌜ r ≡ trapeziumOf kind (service .number) (now (bid .entry) .bid) (now (reading .entry) .measured) ⌝ }
+        ensures value { λ r. ⌜ r ≡ trapeziumOf kind (service .number) (now (bid .entry) .bid) (now (reading .entry) .measured) ⌝ }
+        ensures bid_kept { λ _. ⌜ now (bid .exit) ≡ now (bid .entry) ⌝ }
+        ensures reading_kept { λ _. ⌜ now (reading .exit) ≡ now (reading .entry) ⌝ }
     {
         let envelope = Envelope::new(kind, service, bid, reading);
         Trapezium {
