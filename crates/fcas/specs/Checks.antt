@@ -8,7 +8,7 @@ use Rattle.std.specs.declared.option.Option.the-variants.{None, Some}
 use Rattle.std.specs.declared.result.Result.{Result}
 use Rattle.std.specs.declared.result.Result.the-variants.{Ok, Err}
 use Rattle.fcas.specs.declared.refusal.Refusal.{Refusal}
-use Rattle.fcas.specs.declared.refusal.Refusal.the-variants.{KindUnknown, ServiceUnknown, BidTooLarge, BidFalls, ReadingOutOfRange, ForecastMissing}
+use Rattle.fcas.specs.declared.refusal.Refusal.the-variants.{KindUnknown, ServiceUnknown, BidTooLarge, BidFalls, ReadingOutOfRange, PowerTooLarge, ForecastMissing}
 
 -- The number by which a refusal is known.
 abbrev pub refusalNumber : Refusal → ℕ
@@ -17,6 +17,7 @@ refusalNumber ServiceUnknown = 3
 refusalNumber BidTooLarge = 4
 refusalNumber BidFalls = 5
 refusalNumber ReadingOutOfRange = 6
+refusalNumber PowerTooLarge = 7
 refusalNumber ForecastMissing = 24
 
 -- A numbered statement about what is checked, and whether it is true of it.

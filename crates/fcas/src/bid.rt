@@ -31,7 +31,7 @@ pub struct CheckedBid {
 }
 
 // Whether some number is above the limit.
-pub(crate) fn some_above(limit: u32, numbers: &[u32]) -> bool
+pub fn some_above(limit: u32, numbers: &[u32]) -> bool
     ensures { λ r. ⌜ r ≡ someAbove limit (now (numbers .entry)) ⌝ }
 {
     for number in numbers {

@@ -10,6 +10,7 @@ mod trapezium;
 
 pub use bid::Bid;
 pub use bid::CheckedBid;
+pub use bid::some_above;
 pub use kind::Kind;
 pub use live::Ground;
 pub use reading::AgcStatus;

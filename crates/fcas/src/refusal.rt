@@ -9,6 +9,7 @@ pub enum Refusal {
     BidTooLarge,
     BidFalls,
     ReadingOutOfRange,
+    PowerTooLarge,
     ForecastMissing,
 }
 
@@ -22,6 +23,7 @@ impl Refusal {
             Refusal::BidTooLarge => 4,
             Refusal::BidFalls => 5,
             Refusal::ReadingOutOfRange => 6,
+            Refusal::PowerTooLarge => 7,
             Refusal::ForecastMissing => 24,
         }
     }

@@ -47,6 +47,7 @@ pub fn refusal_words(refusal: Refusal) -> &'static str {
         Refusal::BidTooLarge => "a number of a bid is at most 4000000 kW",
         Refusal::BidFalls => "the first four numbers of a bid never fall",
         Refusal::ReadingOutOfRange => "a number of the reading is out of its range",
+        Refusal::PowerTooLarge => "an energy or an amount is at most 4000000 kW",
         Refusal::ForecastMissing => "a semi-scheduled unit needs its forecast",
     }
 }

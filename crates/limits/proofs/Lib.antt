@@ -1,0 +1,4 @@
+mod InBounds
+mod Products
+mod Orders
+mod Breaks

@@ -1,0 +1,5 @@
+pub mod Terms
+pub mod Row
+pub mod Limit
+pub mod Bounds
+pub mod Plant

@@ -1,0 +1,14 @@
+// The limits of one row of energy and amounts: what breaks, and how much more of a service the row bears.
+mod limit;
+mod plant;
+mod row;
+mod terms;
+
+pub use limit::Limit;
+pub use limit::Sides;
+pub use plant::PlantLimit;
+pub use row::CheckedRow;
+pub use row::Row;
+pub use terms::CheckedTerms;
+pub use terms::Offer;
+pub use terms::Terms;
