@@ -2,3 +2,4 @@ mod InBounds
 mod Products
 mod Orders
 mod Breaks
+mod Joint

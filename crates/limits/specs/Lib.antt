@@ -3,3 +3,5 @@ pub mod Row
 pub mod Limit
 pub mod Bounds
 pub mod Plant
+pub mod Figure
+pub mod Narrowing

@@ -1,11 +1,15 @@
 // The limits of one row of energy and amounts: what breaks, and how much more of a service the row bears.
+mod figure;
 mod limit;
+mod narrowing;
 mod plant;
 mod row;
 mod terms;
 
+pub use figure::Figure;
 pub use limit::Limit;
 pub use limit::Sides;
+pub use limit::first_broken;
 pub use plant::PlantLimit;
 pub use row::CheckedRow;
 pub use row::Row;

@@ -29,7 +29,7 @@ pub struct Sides {
     pub greater: i64,
 }
 
-fn is_regulating(service: u8) -> bool
+pub(crate) fn is_regulating(service: u8) -> bool
     ensures { λ r. ⌜ r ≡ regulating service ⌝ }
 {
     (service == 4) | (service == 9)
