@@ -10,6 +10,7 @@ use Rattle.std.proofs.shelf.Tests.{cases-lt, both-ways, not-from-true}
 use Rattle.std.specs.declared.option.Option.{Option}
 use Rattle.std.specs.declared.option.Option.the-variants.{None, Some}
 use Rattle.limits.specs.Limit.{First, breaks, exceeded, offerAt, place, sidesOf, whileLive}
+use Rattle.limits.specs.Narrowing.{Below}
 use Rattle.limits.specs.Terms.{noOffer}
 use Rattle.limits.specs.declared.limit.Limit.{Limit}
 use Rattle.limits.specs.declared.limit.Limit.the-variants.{Availability, Upper, Lower, RampUp, RampDown, Plant}
@@ -17,7 +18,7 @@ use Rattle.limits.specs.declared.limit.Sides.{Sides}
 use Rattle.limits.specs.declared.row.Row.{Row}
 use Rattle.limits.specs.declared.terms.Offer.{Offer}
 use Rattle.limits.specs.declared.terms.Terms.{Terms}
-use Rattle.limits.proofs.Orders.{Below, TenOnly, after-services, after-ramp-up, after-ramp-down}
+use Rattle.limits.proofs.Orders.{TenOnly, after-services, after-ramp-up, after-ramp-down}
 
 -- a limit of what is no service
 dead : (offer : Offer) (limit : Option Sides) → offer ≡ noOffer → exceeded (whileLive offer limit) ≡ false

@@ -3,3 +3,7 @@ mod Products
 mod Orders
 mod Breaks
 mod Joint
+mod Linear
+mod Caps
+mod Held
+mod Narrow

@@ -8,12 +8,9 @@ use mathlib.Core.Path.{_≡_, refl, sym, ap, subst}
 use lib.ListN.{getD}
 use Rattle.std.proofs.shelf.Tests.{cases-lt}
 use Rattle.limits.specs.Limit.{place}
+use Rattle.limits.specs.Narrowing.{Below}
 use Rattle.limits.specs.declared.limit.Limit.{Limit}
 use Rattle.limits.specs.declared.limit.Limit.the-variants.{Availability, Upper, Lower, RampUp, RampDown, Plant}
-
--- No limit before a place breaks.
-abbrev pub Below : (Limit → Bool) → ℕ → Type 0
-Below f n = (limit : Limit) → place limit < n → f limit ≡ false
 
 -- The limits of a service, in their order.
 abbrev pub limitsOf : ℕ → List Limit

@@ -11,8 +11,8 @@ use Rattle.std.specs.declared.option.Option.the-variants.{None, Some}
 use Rattle.fcas.specs.Kind.{upward, downward}
 use Rattle.fcas.specs.Service.{regulating}
 use Rattle.fcas.specs.declared.kind.Kind.{Kind}
-use Rattle.limits.specs.Limit.{exceeded, offerAt, sidesOf}
-use Rattle.limits.specs.Row.{amount}
+use Rattle.limits.specs.Limit.{exceeded, offerAt, place, sidesOf}
+use Rattle.limits.specs.Row.{amount, withAmount}
 use Rattle.limits.specs.declared.limit.Limit.{Limit}
 use Rattle.limits.specs.declared.limit.Limit.the-variants.{Availability, Upper, Lower, RampUp, RampDown, Plant}
 use Rattle.limits.specs.declared.limit.Sides.{Sides}
@@ -66,3 +66,28 @@ abbrev pub NarrowedAll : Terms → Row → Limit → List Best → List Best →
 NarrowedAll terms row limit before after false = exceeded (sidesOf terms row limit) ≡ true
 NarrowedAll terms row limit before after true = (exceeded (sidesOf terms row limit) ≡ false)
   × ((s : ℕ) → s < 10 → getD after s noBest ≡ narrowedTo (getD before s noBest) (capBy (sidesOf terms row limit) (amount row s) (coefficientOf terms limit s)) limit)
+
+-- No limit before a place breaks.
+abbrev pub Below : (Limit → Bool) → ℕ → Type 0
+Below broken n = (limit : Limit) → place limit < n → broken limit ≡ false
+
+-- Of the limits before n none breaks up to the least, above it its limit does, and at the next amount that is the first.
+pub record Held (broken : ℕ → Limit → Bool) (n : ℕ) (best : Best) : Type 0 where
+  pub within : best .most ≤ 4000001
+  pub low : (a : ℕ) → a ≤ best .most → Below (broken a) n
+  pub high : (a : ℕ) → best .most < a → a ≤ 4000001 → broken a (best .limit) ≡ true
+  pub before : best .most ≤ 4000000 → Below (broken (best .most + 1)) (place (best .limit))
+
+-- What is exceeded as the amount of one service goes.
+abbrev pub exceededWith : Terms → Row → ℕ → ℕ → Limit → Bool
+exceededWith terms row s a limit = exceeded (sidesOf terms (withAmount row s a) limit)
+
+-- The least of one service after all limits that have sides; nothing where the row exceeds one of them.
+abbrev pub Least : Terms → Row → ℕ → Option Best → Type 0
+Least terms row s None = (limit : Limit) × (exceeded (sidesOf terms row limit) ≡ true)
+Least terms row s (Some best) = Held (exceededWith terms row s) 32 best
+
+-- The same of all ten.
+abbrev pub LeastOfAll : Terms → Row → Option (List Best) → Type 0
+LeastOfAll terms row None = (limit : Limit) × (exceeded (sidesOf terms row limit) ≡ true)
+LeastOfAll terms row (Some best) = ((s : ℕ) → s < 10 → Held (exceededWith terms row s) 32 (getD best s noBest)) × Below (λ limit. exceeded (sidesOf terms row limit)) 32

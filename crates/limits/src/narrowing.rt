@@ -7,7 +7,7 @@ ghost use mathlib.Core.Bool.{cond, false};
 ghost use mathlib.Core.Path.{_≡_};
 ghost use Rattle.limits.specs.Bounds.{Bounded};
 ghost use Rattle.limits.specs.Limit.{exceeded, sidesOf};
-ghost use Rattle.limits.specs.Narrowing.{capOf, coefficientOf, jointOf, Narrowed, NarrowedAll, narrowedTo, noBest};
+ghost use Rattle.limits.specs.Narrowing.{capOf, coefficientOf, jointOf, Least, LeastOfAll, Narrowed, NarrowedAll, narrowedTo, noBest};
 ghost use Rattle.limits.specs.Row.{amount as amount-of};
 ghost use Rattle.std.specs.declared.option.Option.the-variants.{Some};
 use crate::limit::Limit;
@@ -16,6 +16,7 @@ use crate::limit::is_regulating;
 use crate::row::CheckedRow;
 use crate::terms::CheckedTerms;
 use fcas::Kind;
+use fcas::Service;
 
 // The greatest amount so far, and the limit that breaks above it.
 #[derive(Clone, Copy)]
@@ -160,5 +161,48 @@ impl CheckedTerms {
             narrow_place(best, other, cap(row.amount(other), room, self.coefficient(limit, other)), limit);
         }
         true
+    }
+}
+
+impl CheckedTerms {
+    // The first least cap on a service of all limits but the plant's; nothing where the row exceeds one of them.
+    pub(crate) fn least(&self, row: &CheckedRow, service: Service) -> Option<Best>
+        ensures { λ r. ⌜ Least (now (self .entry) .terms) (now (row .entry) .row) (service .number) r ⌝ }
+    {
+        let mut best = Best {
+            most: 4_000_001,
+            limit: Limit::Plant,
+        };
+        for own in 0..10u8 {
+            for limit in [Limit::Availability(own), Limit::Upper(own), Limit::Lower(own)] {
+                best = self.narrow(row, limit, service.number, best)?;
+            }
+        }
+        best = self.narrow(row, Limit::RampUp, service.number, best)?;
+        self.narrow(row, Limit::RampDown, service.number, best)
+    }
+
+    // The same of all ten services, in one pass over the limits.
+    pub(crate) fn least_of_all(&self, row: &CheckedRow) -> Option<[Best; 10]>
+        ensures { λ r. ⌜ LeastOfAll (now (self .entry) .terms) (now (row .entry) .row) r ⌝ }
+    {
+        let mut best = [Best {
+            most: 4_000_001,
+            limit: Limit::Plant,
+        }; 10];
+        for own in 0..10u8 {
+            for limit in [Limit::Availability(own), Limit::Upper(own), Limit::Lower(own)] {
+                if !self.narrow_all(row, limit, &mut best) {
+                    return None;
+                }
+            }
+        }
+        if !self.narrow_all(row, Limit::RampUp, &mut best) {
+            return None;
+        }
+        if !self.narrow_all(row, Limit::RampDown, &mut best) {
+            return None;
+        }
+        Some(best)
     }
 }
