@@ -5,8 +5,8 @@ use mathlib.Core.List.{List, [], _∷_}
 use mathlib.Core.Path.{_≡_}
 use native.Mathlib.Omega.{arith}
 use lib.Dec.{leb, ltb}
-use lib.ListN.{getD}
-use Rattle.std.proofs.shelf.Tests.{and-parts, or-parts, leb-true, ltb-false}
+use lib.ListN.{getD, set}
+use Rattle.std.proofs.shelf.Tests.{and-parts, or-from, or-parts, le-ltb, leb-true, ltb-false}
 use Rattle.fcas.specs.Bid.{someAbove}
 use Rattle.limits.specs.Bounds.{Powers}
 use Rattle.limits.specs.Terms.{noOffer, inBounds, allInBounds}
@@ -40,3 +40,10 @@ pub powers-at : (offers : List Offer) (i : ℕ) → allInBounds offers ≡ true 
 powers-at [] i e = no-powers
 powers-at (x ∷ xs) zero e = powers x (and-parts (inBounds x) (allInBounds xs) e .0)
 powers-at (x ∷ xs) (suc i) e = powers-at xs i (and-parts (inBounds x) (allInBounds xs) e .1)
+
+pub none-above-set : (limit : ℕ) (numbers : List ℕ) (i x : ℕ) → x ≤ limit → someAbove limit numbers ≡ false → someAbove limit (set numbers i x) ≡ false
+none-above-set limit [] i x l e = e
+none-above-set limit (y ∷ ys) zero x l e = or-from (ltb limit x) (someAbove limit ys) (le-ltb limit x l) (or-parts (ltb limit y) (someAbove limit ys) e .1)
+none-above-set limit (y ∷ ys) (suc i) x l e =
+    let p = or-parts (ltb limit y) (someAbove limit ys) e in
+    or-from (ltb limit y) (someAbove limit (set ys i x)) (p .0) (none-above-set limit ys i x l (p .1))

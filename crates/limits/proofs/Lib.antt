@@ -7,3 +7,5 @@ mod Linear
 mod Caps
 mod Held
 mod Narrow
+mod Settled
+mod Records

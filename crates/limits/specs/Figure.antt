@@ -1,7 +1,9 @@
 -- The figure of a service: the greatest amount that a row bears, and the limit that one kilowatt more breaks first.
 use Prim.Native.Nat.{ℕ, _+_, _<_, _≤_}
 use mathlib.Core.Bool.{Bool, true, false}
+use mathlib.Core.List.{List}
 use mathlib.Core.Path.{_≡_}
+use lib.ListN.{getD}
 use Rattle.std.specs.Orderings.{When}
 use Rattle.std.specs.declared.option.Option.{Option}
 use Rattle.std.specs.declared.option.Option.the-variants.{None, Some}
@@ -45,3 +47,12 @@ FigureAt allowed terms row service record′ = When (offerAt terms service .live
 abbrev pub Probed : (Row → Bool) → Terms → Row → ℕ → Option Figure → Type 0
 Probed allowed terms row service None = offerAt terms service .live ≡ true → Borne (breaksWith allowed terms row service 0) → ⊥
 Probed allowed terms row service (Some record′) = (offerAt terms service .live ≡ true) × Borne (breaksWith allowed terms row service 0) × LiveFigure (terms .kind) (breaksWith allowed terms row service) record′
+
+-- The place of a service that is none.
+abbrev pub noFigure : Figure
+noFigure = record { figure = 0; ground = 0; by = 0 }
+
+-- What all ten figures of a row are: nothing exactly where the row is not borne.
+abbrev pub AllFigures : (Row → Bool) → Terms → Row → Option (List Figure) → Type 0
+AllFigures allowed terms row None = Borne (breaks allowed terms row) → ⊥
+AllFigures allowed terms row (Some table) = Borne (breaks allowed terms row) × ((service : ℕ) → service < 10 → FigureAt allowed terms row service (getD table service noFigure))

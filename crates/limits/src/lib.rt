@@ -7,6 +7,8 @@ mod row;
 mod terms;
 
 pub use figure::Figure;
+pub use figure::figures;
+pub use figure::probe;
 pub use limit::Limit;
 pub use limit::Sides;
 pub use limit::first_broken;

@@ -26,7 +26,7 @@ pub struct Best {
 }
 
 impl Best {
-    fn narrowed(self, cap: Option<u32>, limit: Limit) -> Best
+    pub(crate) fn narrowed(self, cap: Option<u32>, limit: Limit) -> Best
         ensures { λ r. ⌜ r ≡ narrowedTo self cap limit ⌝ }
     {
         match cap {

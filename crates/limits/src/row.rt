@@ -7,9 +7,10 @@ ghost use mathlib.Core.Bool.{false};
 ghost use mathlib.Core.Path.{_≡_};
 ghost use Rattle.fcas.specs.Bid.{someAbove};
 ghost use Rattle.fcas.specs.Checks.{Checked};
-ghost use Rattle.limits.specs.Row.{amount as amount-of, rowFaults};
+ghost use Rattle.limits.specs.Row.{amount as amount-of, rowFaults, withAmount};
 use fcas::Kind;
 use fcas::Refusal;
+use fcas::Service;
 use fcas::some_above;
 
 // A row as it is handed over, in kilowatts.
@@ -47,5 +48,14 @@ impl CheckedRow {
         ensures bound { λ r. ⌜ r ≤ 4000000 ⌝ }
     {
         if service > 9 { 0 } else { self.row.amounts[service as usize] }
+    }
+
+    // The row with none of a service.
+    pub(crate) fn without(&self, service: Service) -> CheckedRow
+        ensures { λ r. ⌜ r .row ≡ withAmount (now (self .entry) .row) (service .number) 0 ⌝ }
+    {
+        let mut row = self.row;
+        row.amounts[service.number as usize] = 0;
+        CheckedRow { row }
     }
 }
