@@ -9,3 +9,5 @@ mod Held
 mod Narrow
 mod Settled
 mod Records
+mod Places
+mod Offers

@@ -1,22 +1,14 @@
 -- The records of figures, from what settles them.
-use Prim.Native.Nat.{ℕ, _+_, _<_, _≤_}
+use Prim.Native.Nat.{ℕ, _+_}
 use native.Mathlib.Omega.{arith}
 use mathlib.Core.Bool.{Bool, true, false, not}
-use mathlib.Core.List.{List}
-use mathlib.Core.Logic.{⊎-elim}
 use mathlib.Core.Path.{_≡_, refl, sym, ap, _∙_, subst}
-use lib.ListN.{getD, length, set}
-use Rattle.std.proofs.shelf.Lists.{getD-set-same, getD-set-other}
-use Rattle.std.proofs.shelf.Tests.{both-ways, cases-eq, not-from-false}
+use lib.ListN.{length}
+use Rattle.std.proofs.shelf.Tests.{both-ways, not-from-false}
 use Rattle.std.specs.Orderings.{When}
-use Rattle.std.specs.declared.option.Option.{Option}
-use Rattle.std.specs.declared.option.Option.the-variants.{None, Some}
 use Rattle.fcas.specs.declared.kind.Kind.{Kind}
-use Rattle.limits.specs.Figure.{FigureAt, Greatest, LiveFigure, breaksWith, noFigure}
-use Rattle.limits.specs.Limit.{Borne, First, breaks, exceeded, limitBy, limitNumber, offerAt, place, sidesOf}
-use Rattle.limits.specs.Narrowing.{Held, exceededWith, narrowedTo}
-use Rattle.limits.specs.Plant.{Most}
-use Rattle.limits.specs.Row.{amount, withAmount}
+use Rattle.limits.specs.Figure.{Greatest, LiveFigure}
+use Rattle.limits.specs.Limit.{Borne, First, breaks, exceeded, limitBy, limitNumber, place, sidesOf}
 use Rattle.limits.specs.declared.figure.Figure.{Figure}
 use Rattle.limits.specs.declared.limit.Limit.{Limit}
 use Rattle.limits.specs.declared.limit.Limit.the-variants.{Plant}
@@ -25,7 +17,6 @@ use Rattle.limits.specs.declared.row.Row.{Row}
 use Rattle.limits.specs.declared.terms.Offer.{Offer}
 use Rattle.limits.specs.declared.terms.Terms.{Terms}
 use Rattle.limits.proofs.Breaks.{breaks-is, exceeded-place}
-use Rattle.limits.proofs.Settled.{borne-at, put-twice, settled}
 
 -- a live service's record
 pub live-figure : (kind : Kind) (broken : ℕ → Limit → Bool) (best after : Best) (f : Figure) → after ≡ best → Greatest broken (best .most) (best .limit) → f .figure ≡ after .most → f .ground ≡ limitNumber (after .limit) → f .by ≡ limitBy kind (after .limit) → LiveFigure kind broken f
@@ -59,11 +50,3 @@ not-borne allowed terms row ten limit h none =
 pub not-allowed : (allowed : Row → Bool) (terms : Terms) (row : Row) → allowed row ≡ false → Borne (breaks allowed terms row) → ⊥
 unfolding breaks
 not-allowed allowed terms row h none = both-ways (not (allowed row)) (none Plant) (not-from-false _ h)
-
--- one record more
-pub figure-more : (P : ℕ → Figure → Type 0) (table : List Figure) (n : ℕ) (f : Figure) → n < length table → ((s : ℕ) → s < n → P s (getD table s noFigure)) → P n f → (s : ℕ) → s < n + 1 → P s (getD (set table n f) s noFigure)
-figure-more P table n f within below here s l =
-    ⊎-elim
-    (λ (e : s ≡ n). subst (λ (x : ℕ). P x (getD (set table n f) x noFigure)) (sym e) (subst (λ (r : Figure). P n r) (sym (getD-set-same table n f noFigure within)) here))
-    (λ (ne : s ≡ n → ⊥). subst (λ (r : Figure). P s r) (sym (getD-set-other table n s f noFigure ne)) (below s (omega (arith, l))))
-    (cases-eq s n)

@@ -9,6 +9,7 @@ use Rattle.std.specs.declared.option.Option.the-variants.{None, Some}
 use Rattle.fcas.specs.Live.{groundOf}
 use Rattle.fcas.specs.Trapezium.{enablementMin, enablementMax, maxAvailability, upperRun, lowerRun, unlessZero}
 use Rattle.fcas.specs.declared.bid.Bid.{Bid}
+use Rattle.fcas.specs.declared.bid.CheckedBid.{CheckedBid}
 use Rattle.fcas.specs.declared.kind.Kind.{Kind}
 use Rattle.fcas.specs.declared.reading.Measured.{Measured}
 use Rattle.limits.specs.declared.terms.Offer.{Offer}
@@ -60,3 +61,8 @@ inBounds offer =
 abbrev pub allInBounds : List Offer → Bool
 allInBounds [] = true
 allInBounds (offer ∷ more) = inBounds offer && allInBounds more
+
+-- The bids of checked bids.
+abbrev pub heldBids : List (Option CheckedBid) → List (Option Bid)
+heldBids [] = []
+heldBids (bid ∷ more) = mapped (λ checked. checked .bid) bid ∷ heldBids more

@@ -2,6 +2,7 @@
 mod figure;
 mod limit;
 mod narrowing;
+mod opening;
 mod plant;
 mod row;
 mod terms;

@@ -77,7 +77,7 @@ impl Limit {
     }
 }
 
-const NO_OFFER: Offer = Offer {
+pub(crate) const NO_OFFER: Offer = Offer {
     live: false,
     ground: 11,
     bid_availability: 0,

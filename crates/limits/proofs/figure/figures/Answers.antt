@@ -2,9 +2,10 @@ use mathlib.Core.Path.{_≡_, refl, sym, _∙_}
 use Prim.Native.Nat.{ℕ, _<_}
 use native.Mathlib.Omega.{arith}
 use lib.ListN.{length, length-set}
-use Rattle.limits.specs.Figure.{FigureAt}
+use Rattle.limits.specs.Figure.{FigureAt, noFigure}
 use Rattle.limits.proofs.Breaks.{below-breaks, borne}
-use Rattle.limits.proofs.Records.{figure-more, not-allowed, not-borne}
+use Rattle.limits.proofs.Places.{place-more}
+use Rattle.limits.proofs.Records.{not-allowed, not-borne}
 use Rattle.limits.proofs.figure.figures.Needs as need
 
 pub returns-in-Break-best : need.returns-in-Break-best
@@ -27,7 +28,7 @@ pub loop-number-again : need.loop-number-again
 loop-number-again g c =
     let within : c .loop-number .number < length (c .loop-number .table) = omega (arith, c .loop-number .inv .0) in
     (length-set (c .loop-number .table) (c .loop-number .number) (c .settle .result) ∙ c .loop-number .inv .0,
-    figure-more (FigureAt (g .P·PlantLimit .allowed (c .args .plant .now)) (c .args .terms .now .terms) (c .args .row .now .row)) (c .loop-number .table) (c .loop-number .number) (c .settle .result) within (c .loop-number .inv .1) (c .settle .ensures))
+    place-more (FigureAt (g .P·PlantLimit .allowed (c .args .plant .now)) (c .args .terms .now .terms) (c .args .row .now .row)) noFigure (c .loop-number .table) (c .loop-number .number) (c .settle .result) within (c .loop-number .inv .1) (c .settle .ensures))
 
 pub returns : need.returns
 returns g c = record {
