@@ -1,0 +1,4 @@
+mod Amounts
+mod Answered
+mod Flows
+mod Shares

@@ -1,0 +1,2 @@
+pub mod ConnectionCap
+pub mod GovernorShare

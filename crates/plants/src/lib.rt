@@ -1,0 +1,15 @@
+// The four plant limits.
+mod bare;
+mod both;
+mod connection_cap;
+mod governor_share;
+mod room;
+
+pub use bare::Bare;
+pub use bare::BareLimit;
+pub use both::Both;
+pub use both::BothLimit;
+pub use connection_cap::ConnectionCap;
+pub use connection_cap::ConnectionCapLimit;
+pub use governor_share::GovernorShare;
+pub use governor_share::GovernorShareLimit;
