@@ -6,11 +6,11 @@ use mathlib.Core.Logic.{⊎-elim}
 use mathlib.Core.Path.{_≡_, refl, sym, ap, _∙_, subst}
 use lib.ListN.{length}
 use Rattle.std.proofs.shelf.Lists.{getD-past}
-use Rattle.std.proofs.shelf.Tests.{cases-lt, both-ways, not-from-true}
+use Rattle.std.proofs.shelf.Tests.{cases-lt, both-ways, not-from-false, not-from-true}
 use Rattle.std.specs.declared.option.Option.{Option}
 use Rattle.std.specs.declared.option.Option.the-variants.{None, Some}
-use Rattle.limits.specs.Limit.{First, breaks, exceeded, offerAt, place, sidesOf, whileLive}
-use Rattle.limits.specs.Narrowing.{Below}
+use Rattle.limits.specs.Limit.{Finds, FindsBefore, First, breaks, exceeded, offerAt, place, sidesOf, whileLive}
+use Rattle.limits.specs.Narrowing.{Below, earlierOf, firstOfRow}
 use Rattle.limits.specs.Terms.{noOffer}
 use Rattle.limits.specs.declared.limit.Limit.{Limit}
 use Rattle.limits.specs.declared.limit.Limit.the-variants.{Availability, Upper, Lower, RampUp, RampDown, Plant}
@@ -74,14 +74,26 @@ module _ (terms : Terms) (row : Row) (ten : length (terms .offers) ≡ 10) where
         }
 
     -- none of the limits that stand before the ramp downward, or before the plant's, breaks
-    pub before-ramp-down : Below (λ limit. exceeded (sidesOf terms row limit)) 30 → exceeded (sidesOf terms row RampUp) ≡ false → Below (breaks allowed terms row) 31
+    before-ramp-down : Below (λ limit. exceeded (sidesOf terms row limit)) 30 → exceeded (sidesOf terms row RampUp) ≡ false → Below (breaks allowed terms row) 31
     unfolding breaks
     before-ramp-down below up = after-services (breaks allowed terms row) ten-breaks (below-breaks 30 (omega arith) below) up
 
-    pub before-plant : Below (breaks allowed terms row) 31 → exceeded (sidesOf terms row RampDown) ≡ false → Below (breaks allowed terms row) 32
+    before-plant : Below (breaks allowed terms row) 31 → exceeded (sidesOf terms row RampDown) ≡ false → Below (breaks allowed terms row) 32
     unfolding breaks
     before-plant below down = after-ramp-up (breaks allowed terms row) ten-breaks below down
 
     pub borne : Below (breaks allowed terms row) 32 → allowed row ≡ true → (limit : Limit) → breaks allowed terms row limit ≡ false
     unfolding breaks
     borne below here = after-ramp-down (breaks allowed terms row) ten-breaks below (not-from-true _ here)
+
+    -- the first of the row's limits, where no service's breaks, and so the first of all
+    first-of-row : (u d p : Bool) → Below (λ limit. exceeded (sidesOf terms row limit)) 30 → u ≡ exceeded (sidesOf terms row RampUp) → d ≡ exceeded (sidesOf terms row RampDown) → p ≡ allowed row → Finds (breaks allowed terms row) (firstOfRow u d p)
+    unfolding breaks
+    first-of-row true d p below e f g = record { here = sym e; before = below-breaks 30 (omega arith) below }
+    first-of-row false true p below e f g = record { here = sym f; before = before-ramp-down below (sym e) }
+    first-of-row false false true below e f g = borne (before-plant (before-ramp-down below (sym e)) (sym f)) (sym g)
+    first-of-row false false false below e f g = record { here = not-from-false _ (sym g); before = before-plant (before-ramp-down below (sym e)) (sym f) }
+
+    pub first-of-all : (services : Option Limit) (u d p : Bool) → FindsBefore 30 (λ limit. exceeded (sidesOf terms row limit)) services → u ≡ exceeded (sidesOf terms row RampUp) → d ≡ exceeded (sidesOf terms row RampDown) → p ≡ allowed row → Finds (breaks allowed terms row) (earlierOf services (firstOfRow u d p))
+    first-of-all None u d p h e f g = first-of-row u d p h e f g
+    first-of-all (Some limit) u d p h e f g = first-breaks limit h

@@ -10,12 +10,12 @@ use Rattle.std.proofs.shelf.Tests.{cases-lt, cond-true, cond-false, lt-ltb, le-
 use Rattle.std.specs.declared.option.Option.{Option}
 use Rattle.std.specs.declared.option.Option.the-variants.{None, Some}
 use Rattle.limits.specs.Limit.{place}
-use Rattle.limits.specs.Narrowing.{Below, Held, narrowedTo}
+use Rattle.limits.specs.Narrowing.{Below, Held, limitsOf, narrowedTo}
 use Rattle.limits.specs.declared.limit.Limit.{Limit}
 use Rattle.limits.specs.declared.limit.Limit.the-variants.{RampUp, RampDown}
 use Rattle.limits.specs.declared.narrowing.Best.{Best}
 use Rattle.limits.proofs.Caps.{Upto, UptoIf}
-use Rattle.limits.proofs.Orders.{TenOnly, limitsOf, place-of, below-none, below-more, after-services, after-ramp-up}
+use Rattle.limits.proofs.Orders.{TenOnly, place-of, below-none, below-more, after-services, after-ramp-up}
 
 module _ (f : ℕ → Limit → Bool) where
   pub held-none : (limit : Limit) → Held f 0 (record { most = 4000001; limit = limit })

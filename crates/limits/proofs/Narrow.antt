@@ -7,7 +7,7 @@ use lib.ListN.{getD, length}
 use Rattle.std.specs.declared.option.Option.{Option}
 use Rattle.std.specs.declared.option.Option.the-variants.{None, Some}
 use Rattle.limits.specs.Limit.{exceeded, sidesOf}
-use Rattle.limits.specs.Narrowing.{Held, Least, Narrowed, capBy, coefficientOf, exceededWith, narrowedTo}
+use Rattle.limits.specs.Narrowing.{Held, Least, Narrowed, capBy, coefficientOf, exceededWith, limitsOf, narrowedTo}
 use Rattle.limits.specs.Row.{amount, withAmount}
 use Rattle.limits.specs.declared.limit.Limit.{Limit}
 use Rattle.limits.specs.declared.limit.Limit.the-variants.{RampUp, RampDown}
@@ -18,7 +18,7 @@ use Rattle.limits.proofs.Breaks.{ten-sides}
 use Rattle.limits.proofs.Caps.{UptoIf, capped}
 use Rattle.limits.proofs.Held.{held-service, held-rise, held-fall}
 use Rattle.limits.proofs.Linear.{linear}
-use Rattle.limits.proofs.Orders.{TenOnly, limitsOf}
+use Rattle.limits.proofs.Orders.{TenOnly}
 
 module _ (terms : Terms) (row : Row) (s : ℕ) (within : s < length (row .amounts)) where
   -- the cap of a limit that the row does not exceed

@@ -8,13 +8,9 @@ use mathlib.Core.Path.{_≡_, refl, sym, ap, subst}
 use lib.ListN.{getD}
 use Rattle.std.proofs.shelf.Tests.{cases-lt}
 use Rattle.limits.specs.Limit.{place}
-use Rattle.limits.specs.Narrowing.{Below}
+use Rattle.limits.specs.Narrowing.{Below, limitsOf}
 use Rattle.limits.specs.declared.limit.Limit.{Limit}
 use Rattle.limits.specs.declared.limit.Limit.the-variants.{Availability, Upper, Lower, RampUp, RampDown, Plant}
-
--- The limits of a service, in their order.
-abbrev pub limitsOf : ℕ → List Limit
-limitsOf s = Availability s ∷ Upper s ∷ Lower s ∷ []
 
 pub place-of : (s i : ℕ) (d : Limit) → i < 3 → place (getD (limitsOf s) i d) ≡ 3 * s + i
 place-of s zero d h = omega arith

@@ -1,7 +1,7 @@
--- How figures are worked out: each limit caps the amount of a service, and the first least cap stands. No part of the promises.
+-- How the first broken limit is found and figures are worked out: each limit caps the amount of a service, and the first least cap stands. No part of the promises.
 use Prim.Native.Nat.{ℕ, _+_, _/_, _<_, _≤_, min}
 use mathlib.Core.Bool.{Bool, true, false, cond}
-use mathlib.Core.List.{List}
+use mathlib.Core.List.{List, [], _∷_}
 use mathlib.Core.Path.{_≡_}
 use lib.Dec.{eqb, ltb}
 use lib.IntN.{natAbs, _-ℤ_}
@@ -19,6 +19,18 @@ use Rattle.limits.specs.declared.limit.Sides.{Sides}
 use Rattle.limits.specs.declared.narrowing.Best.{Best}
 use Rattle.limits.specs.declared.row.Row.{Row}
 use Rattle.limits.specs.declared.terms.Terms.{Terms}
+
+-- The limits of a service, in their order.
+abbrev pub limitsOf : ℕ → List Limit
+limitsOf s = Availability s ∷ Upper s ∷ Lower s ∷ []
+
+-- The first of the limits of the whole row, by whether each breaks; and the earlier of one of the services and one of the row.
+abbrev pub firstOfRow : Bool → Bool → Bool → Option Limit
+firstOfRow rises falls allows = cond rises (Some RampUp) (cond falls (Some RampDown) (cond allows None (Some Plant)))
+
+abbrev pub earlierOf : Option Limit → Option Limit → Option Limit
+earlierOf None ofRow = ofRow
+earlierOf (Some limit) ofRow = Some limit
 
 -- What one kilowatt of a service takes from the room of a limit.
 abbrev pub coefficientOf : Terms → Limit → ℕ → ℕ

@@ -7,6 +7,7 @@ ghost use Rattle.limits.specs.Figure.{AllFigures, DeadFigure, FigureAt, noFigu
 ghost use Rattle.limits.specs.Limit.{limitBy, limitNumber};
 ghost use Rattle.limits.specs.Narrowing.{Held, exceededWith};
 use crate::limit::Limit;
+use crate::limit::is_allowed;
 use crate::narrowing::Best;
 use crate::plant::PlantLimit;
 use crate::row::CheckedRow;
@@ -87,7 +88,7 @@ pub fn figures<P: PlantLimit>(terms: &CheckedTerms, row: &CheckedRow, plant: &P)
     ensures plant_kept { λ _. ⌜ now (plant .exit) ≡ now (plant .entry) ⌝ }
 {
     let best = terms.least_of_all(row)?;
-    if !plant.allows(&row.row) {
+    if !is_allowed(plant, row) {
         return None;
     }
     let mut table = [Figure {

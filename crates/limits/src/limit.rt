@@ -4,6 +4,7 @@ ghost use lib.IntN.{pos, _+ℤ_, _-ℤ_, _*ℤ_};
 ghost use mathlib.Core.Path.{_≡_};
 ghost use Rattle.limits.specs.Bounds.{Bounded, BoundedIf, Moved, Powers, Product};
 ghost use Rattle.fcas.specs.Service.{regulating};
+ghost use Rattle.limits.specs.Narrowing.{earlierOf, firstOfRow};
 ghost use Rattle.limits.specs.Limit.{breaks, exceeded, Finds, FindsBefore, limitBy, limitNumber, lowered as lowered-energy, lowerSides, offerAt, raised as raised-energy, sidesOf, upperSides};
 use crate::plant::PlantLimit;
 use crate::row::CheckedRow;
@@ -287,6 +288,37 @@ impl CheckedTerms {
     }
 }
 
+// The first of the limits of the whole row, which come after those of the services.
+fn first_of_row(rise_breaks: bool, fall_breaks: bool, is_allowed: bool) -> Option<Limit>
+    ensures { λ r. ⌜ r ≡ firstOfRow «rise_breaks» «fall_breaks» «is_allowed» ⌝ }
+{
+    if rise_breaks {
+        Some(Limit::RampUp)
+    } else if fall_breaks {
+        Some(Limit::RampDown)
+    } else if is_allowed {
+        None
+    } else {
+        Some(Limit::Plant)
+    }
+}
+
+fn earlier(of_services: Option<Limit>, of_row: Option<Limit>) -> Option<Limit>
+    ensures { λ r. ⌜ r ≡ earlierOf «of_services» «of_row» ⌝ }
+{
+    match of_services {
+        Some(_) => of_services,
+        None => of_row,
+    }
+}
+
+// Whether the plant allows a row.
+pub(crate) fn is_allowed<P: PlantLimit>(plant: &P, row: &CheckedRow) -> bool
+    ensures { λ r. ⌜ r ≡ P·PlantLimit .allowed (now (plant .entry)) (now (row .entry) .row) ⌝ }
+{
+    plant.allows(&row.row)
+}
+
 // The first limit of the order that a row breaks.
 pub fn first_broken<P: PlantLimit>(terms: &CheckedTerms, row: &CheckedRow, plant: &P) -> Option<Limit>
     ensures value { λ r. ⌜ Finds (breaks (P·PlantLimit .allowed (now (plant .entry))) (now (terms .entry) .terms) (now (row .entry) .row)) r ⌝ }
@@ -294,17 +326,7 @@ pub fn first_broken<P: PlantLimit>(terms: &CheckedTerms, row: &CheckedRow, plant
     ensures row_kept { λ _. ⌜ now (row .exit) ≡ now (row .entry) ⌝ }
     ensures plant_kept { λ _. ⌜ now (plant .exit) ≡ now (plant .entry) ⌝ }
 {
-    if let Some(limit) = terms.first_of_services(row) {
-        return Some(limit);
-    }
-    if terms.exceeds(row, Limit::RampUp) {
-        return Some(Limit::RampUp);
-    }
-    if terms.exceeds(row, Limit::RampDown) {
-        return Some(Limit::RampDown);
-    }
-    if !plant.allows(&row.row) {
-        return Some(Limit::Plant);
-    }
-    None
+    let rise_breaks = terms.exceeds(row, Limit::RampUp);
+    let fall_breaks = terms.exceeds(row, Limit::RampDown);
+    earlier(terms.first_of_services(row), first_of_row(rise_breaks, fall_breaks, is_allowed(plant, row)))
 }

@@ -16,9 +16,9 @@ returns-in-Break-best g c = rw (c .from-residual .ensures) (record {
   plant-kept = refl;
 })
 
-pub returns-then-not-allows : need.returns-then-not-allows
-returns-then-not-allows g c = record {
-  value = not-allowed (g .P·PlantLimit .allowed (c .args .plant .now)) (c .args .terms .now .terms) (c .args .row .now .row) (sym (c .if-not-allows .ensures tt));
+pub returns-then-not-is-allowed : need.returns-then-not-is-allowed
+returns-then-not-is-allowed g c = record {
+  value = not-allowed (g .P·PlantLimit .allowed (c .args .plant .now)) (c .args .terms .now .terms) (c .args .row .now .row) (sym (c .if-not-is-allowed .ensures tt));
   terms-kept = refl;
   row-kept = refl;
   plant-kept = refl;
@@ -35,7 +35,7 @@ returns g c = record {
   value = (
     borne (c .args .terms .now .terms) (c .args .row .now .row) (c .args .terms .now .ten) (g .P·PlantLimit .allowed (c .args .plant .now))
       (below-breaks (c .args .terms .now .terms) (c .args .row .now .row) (c .args .terms .now .ten) (g .P·PlantLimit .allowed (c .args .plant .now)) 32 (omega arith) (c .in-Continue-best .ensures tt .1))
-      (sym (c .if-not-allows .ensures tt)),
+      (sym (c .if-not-is-allowed .ensures tt)),
     λ service l. c .loop-number .inv .1 service (omega (arith, l)),
   );
   terms-kept = refl;

@@ -10,4 +10,4 @@ returns-in-Some-Some g c =
     both-most (λ a. g .L·PlantLimit .allowed (c .args .self .now .0) (withAmount (c .args .row .now) (c .args .service) a)) (λ a. g .R·PlantLimit .allowed (c .args .self .now .1) (withAmount (c .args .row .now) (c .args .service) a))
       (falls (g .L·PlantLimit .allowed (c .args .self .now .0)) (c .args .service) (λ r a. g .L·PlantLimit·met .lowering (c .args .self .now .0) r (c .args .service) a) (c .args .row .now))
       (falls (g .R·PlantLimit .allowed (c .args .self .now .1)) (c .args .service) (λ r a. g .R·PlantLimit·met .lowering (c .args .self .now .1) r (c .args .service) a) (c .args .row .now))
-      (c .in-Some-Some .a) (c .in-Some-Some .b) (c .min .result) (c .min .ensures) (c .in-Some-Some .ensures tt .1) (c .in-Some-Some .ensures′ tt .1))
+      (c .in-Some-Some .a) (c .in-Some-Some .b) (c .lesser .result) (c .lesser .ensures) (c .in-Some-Some .ensures tt .1) (c .in-Some-Some .ensures′ tt .1))
