@@ -1,2 +1,3 @@
 pub mod ConnectionCap
 pub mod GovernorShare
+pub mod Choice
