@@ -81,3 +81,6 @@ pub fn worked_generator() -> Result<(Trapezium, Trapezium), Refusal>
 
 #[cfg(test)]
 mod tests;
+
+#[cfg(test)]
+mod row_tests;

@@ -9,9 +9,11 @@ pub enum Fault {
     TooFewWords,
     TooManyWords,
     NotWhole,
+    TooWide,
     NotFloat,
     NoKind,
     NoService,
+    NoPlant,
 }
 
 impl Fault {
@@ -22,9 +24,11 @@ impl Fault {
             Fault::TooFewWords => "there are too few words",
             Fault::TooManyWords => "there are too many words",
             Fault::NotWhole => "a word is not a whole number below 2^64",
+            Fault::TooWide => "a number of a plant is not below 2^32",
             Fault::NotFloat => "a word is not a decimal number",
             Fault::NoKind => "a word is neither a number nor the name of a kind",
             Fault::NoService => "a word is neither a number nor the name of a service",
+            Fault::NoPlant => "a word is not the name of a plant limit",
         }
     }
 }

@@ -5,6 +5,11 @@ ghost use mathlib.Core.Path.{_≡_};
 use crate::fault::Fault;
 use fcas::Bid;
 use fcas::Reading;
+use plants::Bare;
+use plants::Both;
+use plants::ConnectionCap;
+use plants::GovernorShare;
+use plants::PlantChoice;
 use std::str::from_utf8;
 
 #[derive(Drop)]
@@ -168,12 +173,63 @@ impl<'a> Words<'a> {
         }
     }
 
-    fn bands(&mut self) -> Result<[u32; 10], Fault> {
-        let mut bands = [0; 10];
-        for band in bands.iter_mut() {
-            *band = self.number()?;
+    // Ten numbers: the bands of a bid, or the amounts of a row.
+    pub fn ten(&mut self) -> Result<[u32; 10], Fault> {
+        let mut numbers = [0; 10];
+        for number in numbers.iter_mut() {
+            *number = self.number()?;
         }
-        Ok(bands)
+        Ok(numbers)
+    }
+
+    // An energy; one that 31 bits do not hold is above every range, and so is what stands for it.
+    pub fn energy(&mut self) -> Result<i32, Fault> {
+        Ok(self.number()?.min(2_147_483_647) as i32)
+    }
+
+    // A number of a plant, which has to fit 32 bits.
+    fn plant_number(&mut self) -> Result<u32, Fault> {
+        let Some(number) = whole(self.word()?) else {
+            return Err(Fault::NotWhole);
+        };
+        if number > 4_294_967_295 {
+            return Err(Fault::TooWide);
+        }
+        Ok(number as u32)
+    }
+
+    fn caps(&mut self) -> Result<ConnectionCap, Fault> {
+        let mut caps = [0; 24];
+        for cap in caps.iter_mut() {
+            *cap = self.plant_number()?;
+        }
+        Ok(ConnectionCap { caps })
+    }
+
+    fn share(&mut self) -> Result<GovernorShare, Fault> {
+        Ok(GovernorShare {
+            raise: self.plant_number()?,
+            lower: self.plant_number()?,
+        })
+    }
+
+    fn keyword(&mut self, keyword: &[u8]) -> Result<(), Fault> {
+        if self.word()? == keyword { Ok(()) } else { Err(Fault::NoPlant) }
+    }
+
+    pub fn plant(&mut self) -> Result<PlantChoice, Fault> {
+        match self.word()? {
+            b"bare" => Ok(PlantChoice::Bare(Bare)),
+            b"cap" => Ok(PlantChoice::Cap(self.caps()?)),
+            b"share" => Ok(PlantChoice::Share(self.share()?)),
+            b"both" => {
+                self.keyword(b"cap")?;
+                let cap = self.caps()?;
+                self.keyword(b"share")?;
+                Ok(PlantChoice::CapAndShare(Both(cap, self.share()?)))
+            }
+            _ => Err(Fault::NoPlant),
+        }
     }
 
     pub fn bid(&mut self) -> Result<Bid, Fault> {
@@ -183,7 +239,7 @@ impl<'a> Words<'a> {
             high_breakpoint: self.number()?,
             enablement_max: self.number()?,
             max_availability: self.number()?,
-            bands: self.bands()?,
+            bands: self.ten()?,
         })
     }
 

@@ -40,6 +40,38 @@ pub fn ground_words(ground: Ground) -> &'static str {
     }
 }
 
+// What a limit of that number limits.
+pub fn limit_words(number: u8) -> &'static str {
+    match number {
+        1 => "max availability",
+        2 => "regulating capacity, upper",
+        3 => "regulating capacity, lower",
+        4 => "joint capacity, upper",
+        5 => "joint capacity, lower",
+        6 => "joint ramping",
+        7 => "joint ramping",
+        _ => "plant limit",
+    }
+}
+
+// The name of a service by its number; 10 is the plant.
+pub fn by_name(by: u8) -> &'static str {
+    if by < 10 { service_name(Service { number: by }) } else { "the plant" }
+}
+
+// What the ground of a figure says: a limit, or what keeps a service out.
+pub fn figure_ground_words(ground: u8) -> &'static str {
+    match ground {
+        11 => ground_words(Ground::NoBid),
+        12 => ground_words(Ground::NoAvailability),
+        13 => ground_words(Ground::NoBand),
+        14 => ground_words(Ground::EnergyMaxTooLow),
+        15 => ground_words(Ground::OutsideEnablement),
+        16 => ground_words(Ground::AgcIsOff),
+        limit => limit_words(limit),
+    }
+}
+
 pub fn refusal_words(refusal: Refusal) -> &'static str {
     match refusal {
         Refusal::KindUnknown => "a kind is at most 3",

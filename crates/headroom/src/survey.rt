@@ -1,8 +1,10 @@
-// The survey of one unit: which of its services are live, and their effective trapeziums.
+// The survey of one unit: which of its services are live, their effective trapeziums, and the figures of a row.
 use crate::fault::Fault;
 use crate::fault::Trouble;
 use crate::fault::TroubleFromFault;
 use crate::fault::TroubleFromRefusal;
+use crate::figures::put_figures;
+use crate::figures::put_limits;
 use crate::lines::Line;
 use crate::lines::Session;
 use crate::parse::Words;
@@ -16,6 +18,11 @@ use fcas::Ground;
 use fcas::Kind;
 use fcas::Service;
 use fcas::Trapezium;
+use limits::CheckedRow;
+use limits::CheckedTerms;
+use limits::Row;
+use plants::Bare;
+use plants::PlantChoice;
 use std::io;
 use std::io::Write;
 
@@ -26,16 +33,23 @@ pub struct Survey {
     kind: Option<Kind>,
     bids: [Option<CheckedBid>; 10],
     reading: Option<CheckedReading>,
+    plant: PlantChoice,
+    row: Option<Row>,
+    with_limits: bool,
     is_done: bool,
 }
 
 impl Survey {
-    pub fn new() -> Survey {
+    // A survey that lists the limits of the row too, or not.
+    pub fn new(with_limits: bool) -> Survey {
         Survey {
             line: 0,
             kind: None,
             bids: [None; 10],
             reading: None,
+            plant: PlantChoice::Bare(Bare),
+            row: None,
+            with_limits,
             is_done: false,
         }
     }
@@ -68,6 +82,26 @@ impl Survey {
         Ok(())
     }
 
+    fn take_plant(&mut self, words: &mut Words<'_>) -> Result<(), Trouble> {
+        let plant = words.plant()?;
+        words.end()?;
+        self.plant = plant;
+        Ok(())
+    }
+
+    // The row of unit 0; its kind is that of the survey, once that is known.
+    fn take_row(&mut self, words: &mut Words<'_>) -> Result<(), Trouble> {
+        let row = Row {
+            unit: 0,
+            kind: Kind::Generator,
+            energy: words.energy()?,
+            amounts: words.ten()?,
+        };
+        words.end()?;
+        self.row = Some(CheckedRow::new(row)?.row);
+        Ok(())
+    }
+
     fn take_line(&mut self, line: Line<'_>) -> Result<(), Trouble> {
         let text = match line {
             Line::Text(text) => text,
@@ -79,8 +113,25 @@ impl Survey {
             Some(b"kind") => self.take_kind(&mut words),
             Some(b"bid") => self.take_bid(&mut words),
             Some(b"reading") => self.take_reading(&mut words),
+            Some(b"plant") => self.take_plant(&mut words),
+            Some(b"row") => self.take_row(&mut words),
             Some(_) => Err(Trouble::Unread(Fault::UnknownCommand)),
         }
+    }
+}
+
+impl Survey {
+    // The figures of the row, and its limits where they are wanted.
+    fn end_row(&self, terms: &CheckedTerms, mut row: Row, out: &mut Vec<u8>) -> io::Result<()> {
+        row.kind = terms.terms.kind;
+        let Ok(row) = CheckedRow::new(row) else {
+            return Ok(());
+        };
+        put_figures(terms, &row, &self.plant, out)?;
+        if self.with_limits {
+            put_limits(terms, &row, &self.plant, out)?;
+        }
+        Ok(())
     }
 }
 
@@ -177,6 +228,10 @@ pub impl Session for Survey as SurveySession {
         }
         put_survey(kind, &self.bids, &reading, out)?;
         self.is_done = true;
-        Ok(())
+        let terms = CheckedTerms::new(kind, &self.bids, &reading);
+        match self.row {
+            Some(row) => self.end_row(&terms, row, out),
+            None => Ok(()),
+        }
     }
 }
