@@ -80,7 +80,6 @@ pub fn worked_generator() -> Result<(Trapezium, Trapezium), Refusal>
 }
 
 #[cfg(test)]
-mod tests;
-
-#[cfg(test)]
 mod row_tests;
+#[cfg(test)]
+mod tests;

@@ -40,16 +40,24 @@ impl PlantLimit for Shut as ShutLimit {
 
 const NO_BIDS: [Option<CheckedBid>; 10] = [None; 10];
 
-fn bid(enablement_min: u32, low_breakpoint: u32, high_breakpoint: u32, enablement_max: u32, max_availability: u32) -> Result<Option<CheckedBid>, Refusal> {
+fn bid(
+    enablement_min: u32,
+    low_breakpoint: u32,
+    high_breakpoint: u32,
+    enablement_max: u32,
+    max_availability: u32,
+) -> Result<Option<CheckedBid>, Refusal> {
     let bands = [1, 0, 0, 0, 0, 0, 0, 0, 0, 0];
-    Ok(Some(CheckedBid::new(Bid {
-        enablement_min,
-        low_breakpoint,
-        high_breakpoint,
-        enablement_max,
-        max_availability,
-        bands,
-    })?))
+    Ok(Some(
+        CheckedBid::new(Bid {
+            enablement_min,
+            low_breakpoint,
+            high_breakpoint,
+            enablement_max,
+            max_availability,
+            bands,
+        })?,
+    ))
 }
 
 fn reading(initial: f64, ramp_up: Option<f64>, ramp_down: Option<f64>) -> Reading {
@@ -91,7 +99,11 @@ fn load_terms() -> Result<CheckedTerms, Refusal> {
     let mut bids = NO_BIDS;
     bids[2] = bid(100_000, 140_000, 300_000, 300_000, 40_000)?;
     bids[4] = bid(100_000, 120_000, 300_000, 300_000, 20_000)?;
-    Ok(CheckedTerms::new(Kind::Load, &bids, &CheckedReading::new(&reading(200.0, Some(3.0), Some(4.0)))?))
+    Ok(CheckedTerms::new(
+        Kind::Load,
+        &bids,
+        &CheckedReading::new(&reading(200.0, Some(3.0), Some(4.0)))?,
+    ))
 }
 
 fn row(kind: Kind, energy: i32, amounts: [u32; 10]) -> Result<CheckedRow, Refusal> {
@@ -111,7 +123,12 @@ fn told(figure: Option<Figure>) -> (u32, u8, u8) {
     }
 }
 
-fn probed<P: PlantLimit>(terms: &CheckedTerms, row: &CheckedRow, plant: &P, service: u32) -> Result<(u32, u8, u8), Refusal> {
+fn probed<P: PlantLimit>(
+    terms: &CheckedTerms,
+    row: &CheckedRow,
+    plant: &P,
+    service: u32,
+) -> Result<(u32, u8, u8), Refusal> {
     Ok(told(probe(terms, row, plant, Service::from_number(service)?)))
 }
 
@@ -136,7 +153,11 @@ fn refused(_refusal: Refusal) -> Fail {
 
 fn generator_figures() -> Result<[(u32, u8, u8); 6], Refusal> {
     let terms = generator_terms()?;
-    let row = row(Kind::Generator, 455_000, [0, 0, 0, 50_000, 10_000, 0, 0, 0, 50_000, 10_000])?;
+    let row = row(
+        Kind::Generator,
+        455_000,
+        [0, 0, 0, 50_000, 10_000, 0, 0, 0, 50_000, 10_000],
+    )?;
     let table = figures(&terms, &row, &Bare);
     Ok([
         in_table(&table, 3),
@@ -168,7 +189,11 @@ fn shared_figures() -> Result<[(u32, u8, u8); 4], Refusal> {
         lower: 70_000,
     };
     let terms = generator_terms()?;
-    let row = row(Kind::Generator, 455_000, [0, 0, 0, 50_000, 10_000, 0, 0, 0, 50_000, 10_000])?;
+    let row = row(
+        Kind::Generator,
+        455_000,
+        [0, 0, 0, 50_000, 10_000, 0, 0, 0, 50_000, 10_000],
+    )?;
     let table = figures(&terms, &row, &share);
     Ok([
         in_table(&table, 3),
@@ -234,7 +259,15 @@ fn broken_rows() -> Result<[(u8, u8); 6], Refusal> {
         broken(&terms, &row(Kind::Generator, 440_000, none)?, &Bare),
         broken(&terms, &row(Kind::Generator, 439_999, none)?, &Bare),
         broken(&terms, &row(Kind::Generator, 455_000, none)?, &Shut),
-        broken(&terms, &row(Kind::Generator, 455_000, [0, 0, 0, 66_001, 0, 0, 0, 0, 0, 0])?, &Shut),
+        broken(
+            &terms,
+            &row(
+                Kind::Generator,
+                455_000,
+                [0, 0, 0, 66_001, 0, 0, 0, 0, 0, 0],
+            )?,
+            &Shut,
+        ),
     ])
 }
 

@@ -51,7 +51,12 @@ fn bid(availability: u32) -> Bid {
     }
 }
 
-fn trapezium(kind: Kind, service: u32, availability: u32, reading: &Reading) -> Result<Trapezium, Refusal> {
+fn trapezium(
+    kind: Kind,
+    service: u32,
+    availability: u32,
+    reading: &Reading,
+) -> Result<Trapezium, Refusal> {
     let reading = CheckedReading::new(reading)?;
     let bid = CheckedBid::new(bid(availability))?;
     Ok(Trapezium::new(kind, Service::from_number(service)?, &bid, &reading))
@@ -66,7 +71,12 @@ fn ground(kind: Kind, service: u32, availability: u32, reading: &Reading) -> u8 
     }
 }
 
-fn find_ground(kind: Kind, service: u32, availability: u32, reading: &Reading) -> Result<Option<Ground>, Refusal> {
+fn find_ground(
+    kind: Kind,
+    service: u32,
+    availability: u32,
+    reading: &Reading,
+) -> Result<Option<Ground>, Refusal> {
     let reading = CheckedReading::new(reading)?;
     let bid = CheckedBid::new(bid(availability))?;
     Ok(Ground::against(kind, Service::from_number(service)?, Some(&bid), &reading))
@@ -109,7 +119,9 @@ fn zero_limits() -> Result<(), Fail> {
         Ok(trapezium) => trapezium,
         Err(_) => return Err(Fail::new("refused")),
     };
-    check_eq(generator.enablement_max, 100_000).note("an AGC limit of 0 is none, and a generator has no forecast")?;
+    check_eq(generator.enablement_max, 100_000).note(
+        "an AGC limit of 0 is none, and a generator has no forecast",
+    )?;
     check_eq(generator.max_availability, 10_000).note("a ramp of 0 is none")?;
     let wind_farm = match trapezium(Kind::SemiScheduled, 4, 10_000, &reading) {
         Ok(trapezium) => trapezium,

@@ -1,5 +1,6 @@
 // A bid for one service: a trapezium and ten price bands.
 ghost use Prim.Native.Nat.{_≤_};
+ghost use lib.Dec.{ltb};
 ghost use mathlib.Core.Path.{_≡_};
 ghost use Rattle.fcas.specs.Bid.{bidFaults, falls as numbers-fall, numbersOf, someAbove};
 ghost use Rattle.fcas.specs.Checks.{Checked};
@@ -30,12 +31,18 @@ pub struct CheckedBid {
     ghost availability_in_range: { bid .«max_availability» ≤ 4000000 },
 }
 
+fn is_above(limit: u32, number: u32) -> bool
+    ensures { λ r. ⌜ r ≡ ltb limit number ⌝ }
+{
+    number > limit
+}
+
 // Whether some number is above the limit.
 pub fn some_above(limit: u32, numbers: &[u32]) -> bool
     ensures { λ r. ⌜ r ≡ someAbove limit (now (numbers .entry)) ⌝ }
 {
     for number in numbers {
-        if *number > limit {
+        if is_above(limit, *number) {
             return true;
         }
     }

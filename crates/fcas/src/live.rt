@@ -64,7 +64,12 @@ impl Ground {
     }
 
     // The lowest ground against a service that is bid.
-    fn against_bid(kind: Kind, service: Service, bid: &CheckedBid, reading: &CheckedReading) -> Option<Ground>
+    fn against_bid(
+        kind: Kind,
+        service: Service,
+        bid: &CheckedBid,
+        reading: &CheckedReading,
+    ) -> Option<Ground>
         ensures { λ r. ⌜ mapped groundNumber r ≡ firstOf (groundsAgainst kind (service .number) (now (bid .entry) .bid) (now (reading .entry) .measured)) ⌝ }
     {
         let envelope = Envelope::new(kind, service, bid, reading);
@@ -88,7 +93,12 @@ impl Ground {
     }
 
     // The lowest ground against a service, or nothing where it is live.
-    pub fn against(kind: Kind, service: Service, bid: Option<&CheckedBid>, reading: &CheckedReading) -> Option<Ground>
+    pub fn against(
+        kind: Kind,
+        service: Service,
+        bid: Option<&CheckedBid>,
+        reading: &CheckedReading,
+    ) -> Option<Ground>
         ensures value { λ r. ⌜ mapped groundNumber r ≡ groundOf kind (service .number) (mapped (λ held. now {X = CheckedBid} held .bid) (bid .entry)) (now (reading .entry) .measured) ⌝ }
         ensures bid_kept { λ _. ⌜ mapped (now {X = CheckedBid}) (bid .exit) ≡ mapped now (bid .entry) ⌝ }
         ensures reading_kept { λ _. ⌜ now (reading .exit) ≡ now (reading .entry) ⌝ }

@@ -18,7 +18,9 @@ impl Service {
         if number > 9 {
             return Err(Refusal::ServiceUnknown);
         }
-        Ok(Service { number: number as u8 })
+        Ok(Service {
+            number: number as u8,
+        })
     }
 
     pub fn is_regulating(self) -> bool

@@ -69,8 +69,14 @@ fn scaled_by_agc(envelope: Envelope, service: Service, reading: &CheckedReading)
         return envelope;
     }
     Envelope {
-        enablement_min: at_least(unless_zero(reading.measured.agc_lower), envelope.enablement_min),
-        enablement_max: at_most(unless_zero(reading.measured.agc_upper), envelope.enablement_max),
+        enablement_min: at_least(
+            unless_zero(reading.measured.agc_lower),
+            envelope.enablement_min,
+        ),
+        enablement_max: at_most(
+            unless_zero(reading.measured.agc_upper),
+            envelope.enablement_max,
+        ),
         max_availability: envelope.max_availability,
     }
 }
@@ -189,7 +195,11 @@ impl Trapezium {
             return i64::from(envelope.enablement_max);
         }
         let run = bid.bid.enablement_max - bid.bid.high_breakpoint;
-        rounded_down(product(availability, envelope.enablement_max) - product(run, envelope.max_availability), availability)
+        rounded_down(
+            product(availability, envelope.enablement_max)
+                - product(run, envelope.max_availability),
+            availability,
+        )
     }
 
     // Where it begins: the bid's lower slope, raised from the effective enablement minimum.
@@ -201,11 +211,20 @@ impl Trapezium {
             return i64::from(envelope.enablement_min);
         }
         let run = bid.bid.low_breakpoint - bid.bid.enablement_min;
-        rounded_up(product(availability, envelope.enablement_min) + product(run, envelope.max_availability), availability)
+        rounded_up(
+            product(availability, envelope.enablement_min)
+                + product(run, envelope.max_availability),
+            availability,
+        )
     }
 
     // The five effective numbers of a service.
-    pub fn new(kind: Kind, service: Service, bid: &CheckedBid, reading: &CheckedReading) -> Trapezium
+    pub fn new(
+        kind: Kind,
+        service: Service,
+        bid: &CheckedBid,
+        reading: &CheckedReading,
+    ) -> Trapezium
         ensures value { λ r. ⌜ r ≡ trapeziumOf kind (service .number) (now (bid .entry) .bid) (now (reading .entry) .measured) ⌝ }
         ensures bid_kept { λ _. ⌜ now (bid .exit) ≡ now (bid .entry) ⌝ }
         ensures reading_kept { λ _. ⌜ now (reading .exit) ≡ now (reading .entry) ⌝ }

@@ -29,7 +29,10 @@ fn put_figure(number: u8, held: u32, figure: &Figure, out: &mut Vec<u8>) -> io::
     let most = figure.figure;
     let ground = figure.ground;
     let words = figure_ground_words(ground);
-    write!(out, "{number} {name:<10}  {held:>10}  {most:>10}  {ground} {words}")?;
+    write!(
+        out,
+        "{number} {name:<10}  {held:>10}  {most:>10}  {ground} {words}"
+    )?;
     if ground > 10 {
         return writeln!(out, "");
     }
@@ -38,7 +41,12 @@ fn put_figure(number: u8, held: u32, figure: &Figure, out: &mut Vec<u8>) -> io::
 }
 
 // The ten figures of a row, or the first limit that it breaks.
-pub fn put_figures(terms: &CheckedTerms, row: &CheckedRow, plant: &PlantChoice, out: &mut Vec<u8>) -> io::Result<()> {
+pub fn put_figures(
+    terms: &CheckedTerms,
+    row: &CheckedRow,
+    plant: &PlantChoice,
+    out: &mut Vec<u8>,
+) -> io::Result<()> {
     let Some(table) = figures(terms, row, plant) else {
         return put_broken(terms, row, plant, out);
     };
@@ -46,12 +54,22 @@ pub fn put_figures(terms: &CheckedTerms, row: &CheckedRow, plant: &PlantChoice, 
     writeln!(out, "figures at {energy} kW")?;
     writeln!(out, "service             held      figure  held down by")?;
     for number in 0..10u8 {
-        put_figure(number, row.row.amounts[number as usize], &table[number as usize], out)?;
+        put_figure(
+            number,
+            row.row.amounts[number as usize],
+            &table[number as usize],
+            out,
+        )?;
     }
     Ok(())
 }
 
-fn put_broken(terms: &CheckedTerms, row: &CheckedRow, plant: &PlantChoice, out: &mut Vec<u8>) -> io::Result<()> {
+fn put_broken(
+    terms: &CheckedTerms,
+    row: &CheckedRow,
+    plant: &PlantChoice,
+    out: &mut Vec<u8>,
+) -> io::Result<()> {
     write!(out, "the row is not borne; it breaks ")?;
     if let Some(limit) = first_broken(terms, row, plant) {
         put_limit_name(limit, terms.terms.kind, out)?;
@@ -67,10 +85,18 @@ fn put_limit(limit: Limit, kind: Kind, sides: &Sides, out: &mut Vec<u8>) -> io::
     let lesser = sides.lesser;
     let greater = sides.greater;
     let left = greater.saturating_sub(lesser);
-    writeln!(out, "{number} {words:<27} {by:<10}  {lesser:>16} <= {greater:>16}  {left:>16}")
+    writeln!(
+        out,
+        "{number} {words:<27} {by:<10}  {lesser:>16} <= {greater:>16}  {left:>16}"
+    )
 }
 
-fn put_limit_if_in_force(terms: &CheckedTerms, row: &CheckedRow, limit: Limit, out: &mut Vec<u8>) -> io::Result<()> {
+fn put_limit_if_in_force(
+    terms: &CheckedTerms,
+    row: &CheckedRow,
+    limit: Limit,
+    out: &mut Vec<u8>,
+) -> io::Result<()> {
     match terms.sides(row, limit) {
         Some(sides) => put_limit(limit, terms.terms.kind, &sides, out),
         None => Ok(()),
@@ -78,15 +104,31 @@ fn put_limit_if_in_force(terms: &CheckedTerms, row: &CheckedRow, limit: Limit, o
 }
 
 // Every limit in force, in order. Those of capacity are scaled by the bid's maximum availability, as the rules write them.
-pub fn put_limits(terms: &CheckedTerms, row: &CheckedRow, plant: &PlantChoice, out: &mut Vec<u8>) -> io::Result<()> {
-    writeln!(out, "limit                         by                lesser side           greater side              left")?;
+pub fn put_limits(
+    terms: &CheckedTerms,
+    row: &CheckedRow,
+    plant: &PlantChoice,
+    out: &mut Vec<u8>,
+) -> io::Result<()> {
+    writeln!(
+        out,
+        "limit                         by                lesser side           greater side              left"
+    )?;
     for service in 0..10u8 {
-        for limit in [Limit::Availability(service), Limit::Upper(service), Limit::Lower(service)] {
+        for limit in [
+            Limit::Availability(service),
+            Limit::Upper(service),
+            Limit::Lower(service),
+        ] {
             put_limit_if_in_force(terms, row, limit, out)?;
         }
     }
     put_limit_if_in_force(terms, row, Limit::RampUp, out)?;
     put_limit_if_in_force(terms, row, Limit::RampDown, out)?;
-    let allowed = if plant.allows(&row.row) { "allows the row" } else { "does not allow the row" };
+    let allowed = if plant.allows(&row.row) {
+        "allows the row"
+    } else {
+        "does not allow the row"
+    };
     writeln!(out, "8 plant limit                 {allowed}")
 }

@@ -128,7 +128,12 @@ fn cut_line(bytes: &[u8]) -> Option<(&[u8], &[u8])>
 }
 
 // Hands on the lines of a chunk, and keeps the front of one that goes on in the next.
-fn take_chunk<S: Session>(session: &mut S, partial: &mut Partial, chunk: &[u8], out: &mut Vec<u8>) -> io::Result<()> {
+fn take_chunk<S: Session>(
+    session: &mut S,
+    partial: &mut Partial,
+    chunk: &[u8],
+    out: &mut Vec<u8>,
+) -> io::Result<()> {
     let mut rest = chunk;
     while let Some((piece, after)) = cut_line(rest) {
         if partial.is_begun {
@@ -168,7 +173,12 @@ fn send<W: Write>(out: &mut Vec<u8>, to: &mut W) -> io::Result<()> {
 }
 
 // Runs a session over an input. What it answers to a chunk is written before the next is waited for.
-pub fn run<S: Session, R: Read, W: Write>(session: &mut S, input: &mut R, to: &mut W, heap: Global) -> io::Result<()> {
+pub fn run<S: Session, R: Read, W: Write>(
+    session: &mut S,
+    input: &mut R,
+    to: &mut W,
+    heap: Global,
+) -> io::Result<()> {
     let mut chunk = [0u8; CHUNK];
     let mut partial = Partial::new();
     let mut out = Vec::with_capacity(heap, CHUNK)?;

@@ -52,7 +52,9 @@ fn whole(word: &[u8]) -> Option<u64> {
         if !byte.is_ascii_digit() {
             return None;
         }
-        number = number.checked_mul(10)?.checked_add(u64::from(*byte - b'0'))?;
+        number = number
+            .checked_mul(10)?
+            .checked_add(u64::from(*byte - b'0'))?;
     }
     Some(number)
 }
@@ -111,7 +113,11 @@ impl<'a> Words<'a> {
         let from_word = &line[blanks(line)..];
         let end = word_length(from_word);
         self.rest = &from_word[end..];
-        if end == 0 { None } else { Some(&from_word[0..end]) }
+        if end == 0 {
+            None
+        } else {
+            Some(&from_word[0..end])
+        }
     }
 
     fn word(&mut self) -> Result<&'a [u8], Fault> {
@@ -214,7 +220,11 @@ impl<'a> Words<'a> {
     }
 
     fn keyword(&mut self, keyword: &[u8]) -> Result<(), Fault> {
-        if self.word()? == keyword { Ok(()) } else { Err(Fault::NoPlant) }
+        if self.word()? == keyword {
+            Ok(())
+        } else {
+            Err(Fault::NoPlant)
+        }
     }
 
     pub fn plant(&mut self) -> Result<PlantChoice, Fault> {

@@ -56,7 +56,11 @@ pub fn limit_words(number: u8) -> &'static str {
 
 // The name of a service by its number; 10 is the plant.
 pub fn by_name(by: u8) -> &'static str {
-    if by < 10 { service_name(Service { number: by }) } else { "the plant" }
+    if by < 10 {
+        service_name(Service { number: by })
+    } else {
+        "the plant"
+    }
 }
 
 // What the ground of a figure says: a limit, or what keeps a service out.

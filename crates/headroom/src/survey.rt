@@ -142,7 +142,10 @@ fn put_trapezium(trapezium: &Trapezium, out: &mut Vec<u8>) -> io::Result<()> {
     let high = trapezium.high_breakpoint;
     let enablement_max = trapezium.enablement_max;
     let availability = trapezium.max_availability;
-    write!(out, "  {enablement_min:>14}  {low:>14}  {high:>15}  {enablement_max:>14}  {availability:>16}")
+    write!(
+        out,
+        "  {enablement_min:>14}  {low:>14}  {high:>15}  {enablement_max:>14}  {availability:>16}"
+    )
 }
 
 // Whether a service is live, or the ground that keeps it out.
@@ -158,13 +161,25 @@ fn put_state(ground: Option<Ground>, out: &mut Vec<u8>) -> io::Result<()> {
 }
 
 // What is known of a service that is bid.
-fn put_bid(kind: Kind, service: Service, bid: &CheckedBid, reading: &CheckedReading, out: &mut Vec<u8>) -> io::Result<()> {
+fn put_bid(
+    kind: Kind,
+    service: Service,
+    bid: &CheckedBid,
+    reading: &CheckedReading,
+    out: &mut Vec<u8>,
+) -> io::Result<()> {
     put_state(Ground::against(kind, service, Some(bid), reading), out)?;
     put_trapezium(&Trapezium::new(kind, service, bid, reading), out)
 }
 
 // One service of the unit.
-fn put_service(kind: Kind, service: Service, bid: &Option<CheckedBid>, reading: &CheckedReading, out: &mut Vec<u8>) -> io::Result<()> {
+fn put_service(
+    kind: Kind,
+    service: Service,
+    bid: &Option<CheckedBid>,
+    reading: &CheckedReading,
+    out: &mut Vec<u8>,
+) -> io::Result<()> {
     let number = service.number;
     let name = service_name(service);
     write!(out, "{number} {name:<10}  ")?;
@@ -185,13 +200,28 @@ fn put_no_bid(out: &mut Vec<u8>) -> io::Result<()> {
 fn put_header(kind: Kind, out: &mut Vec<u8>) -> io::Result<()> {
     let words = kind_words(kind);
     writeln!(out, "{words}, in kW")?;
-    writeln!(out, "service       {:<43}  enablement min  low breakpoint  high breakpoint  enablement max  max availability", "state")
+    writeln!(
+        out,
+        "service       {:<43}  enablement min  low breakpoint  high breakpoint  enablement max  max availability",
+        "state"
+    )
 }
 
-fn put_survey(kind: Kind, bids: &[Option<CheckedBid>; 10], reading: &CheckedReading, out: &mut Vec<u8>) -> io::Result<()> {
+fn put_survey(
+    kind: Kind,
+    bids: &[Option<CheckedBid>; 10],
+    reading: &CheckedReading,
+    out: &mut Vec<u8>,
+) -> io::Result<()> {
     put_header(kind, out)?;
     for number in 0..10u8 {
-        put_service(kind, Service { number }, &bids[number as usize], reading, out)?;
+        put_service(
+            kind,
+            Service { number },
+            &bids[number as usize],
+            reading,
+            out,
+        )?;
     }
     Ok(())
 }

@@ -32,19 +32,19 @@ module _ (f : ℕ → Limit → Bool) where
   held-step n m limit best (Some cap) e more h u =
       ⊎-elim
       (λ (l : cap < best .most).
-        subst (λ (b : Best). Held f m b) (sym (cond-true (ltb cap (best .most)) (record { most = cap; limit = limit }) best (lt-ltb cap (best .most) l))) (record {
-          within = u .within;
-          low = λ a k. more a (h .low a (omega (arith, k, l))) (u .low a k);
-          high = u .high;
-          before = λ k. subst (λ (p : ℕ). Below (f (cap + 1)) p) (sym e) (h .low (cap + 1) (omega (arith, l)));
-        }))
+      subst (λ (b : Best). Held f m b) (sym (cond-true (ltb cap (best .most)) (record { most = cap; limit = limit }) best (lt-ltb cap (best .most) l))) (record {
+        within = u .within;
+        low = λ a k. more a (h .low a (omega (arith, k, l))) (u .low a k);
+        high = u .high;
+        before = λ k. subst (λ (p : ℕ). Below (f (cap + 1)) p) (sym e) (h .low (cap + 1) (omega (arith, l)));
+      }))
       (λ (l : best .most ≤ cap).
-        subst (λ (b : Best). Held f m b) (sym (cond-false (ltb cap (best .most)) (record { most = cap; limit = limit }) best (le-ltb cap (best .most) l))) (record {
-          within = h .within;
-          low = λ a k. more a (h .low a k) (u .low a (omega (arith, k, l)));
-          high = h .high;
-          before = h .before;
-        }))
+      subst (λ (b : Best). Held f m b) (sym (cond-false (ltb cap (best .most)) (record { most = cap; limit = limit }) best (le-ltb cap (best .most) l))) (record {
+        within = h .within;
+        low = λ a k. more a (h .low a k) (u .low a (omega (arith, k, l)));
+        high = h .high;
+        before = h .before;
+      }))
       (cases-lt cap (best .most))
 
   pub held-service : (s i : ℕ) (d : Limit) (best : Best) (cap : Option ℕ) → s < 10 → i < 3 → Held f (3 * s + i) best → UptoIf (λ a. f a (getD (limitsOf s) i d)) cap → Held f (3 * s + (i + 1)) (narrowedTo best cap (getD (limitsOf s) i d))

@@ -101,31 +101,54 @@ module _ (terms : Terms) (limit : Limit) (sides : Option Sides) (held : ℕ → 
   put-elsewhere list place s cap ne = cond-false (eqb s place) _ _ (ne-eqb s place ne)
 
   pub one-narrowed : (own : ℕ) (cap : Option ℕ) (after : List Best) → own ≡ limitBy (terms .kind) limit → jointOf (terms .kind) limit ≡ None → cap ≡ capBy sides (held own) (coefficientOf terms limit own)
-    → ((s : ℕ) → s < 10 → getD after s noBest ≡ put before own cap s) → (s : ℕ) → s < 10 → Right s (getD after s noBest)
+      → ((s : ℕ) → s < 10 → getD after s noBest ≡ put before own cap s) → (s : ℕ) → s < 10 → Right s (getD after s noBest)
   one-narrowed own cap after o j k is s l =
       ⊎-elim
       (λ (e : s ≡ own). is s l ∙ put-here before own s cap e k refl)
       (λ (ne : s ≡ own → ⊥). is s l ∙ put-elsewhere before own s cap ne
-        ∙ sym (uncapped sides (held s) _ _ limit (others-take-none terms s limit None j (λ e. ne (e ∙ sym o)) (λ i h _. none-some i h))))
+      ∙ sym (uncapped sides (held s) _ _ limit (others-take-none terms s limit None j (λ e. ne (e ∙ sym o)) (λ i h _. none-some i h))))
       (cases-eq s own)
     where
       none-some : (i : ℕ) → _≡_ {A = Option ℕ} None (Some i) → ⊥
       none-some i h = let z : _≡_ {A = ℕ} 0 1 = cc in omega arith
 
   pub two-narrowed : (own other : ℕ) (cap cap′ : Option ℕ) (mid after : List Best) → own ≡ limitBy (terms .kind) limit → jointOf (terms .kind) limit ≡ Some other
-    → cap ≡ capBy sides (held own) (coefficientOf terms limit own) → cap′ ≡ capBy sides (held other) (coefficientOf terms limit other)
-    → ((s : ℕ) → s < 10 → getD mid s noBest ≡ put before own cap s) → ((s : ℕ) → s < 10 → getD after s noBest ≡ put mid other cap′ s) → (s : ℕ) → s < 10 → Right s (getD after s noBest)
+      → cap ≡ capBy sides (held own) (coefficientOf terms limit own) → cap′ ≡ capBy sides (held other) (coefficientOf terms limit other)
+      → ((s : ℕ) → s < 10 → getD mid s noBest ≡ put before own cap s) → ((s : ℕ) → s < 10 → getD after s noBest ≡ put mid other cap′ s) → (s : ℕ) → s < 10 → Right s (getD after s noBest)
   two-narrowed own other cap cap′ mid after o j k k′ is is′ s l =
       ⊎-elim
       (λ (e : s ≡ other). is′ s l ∙ put-here mid other s cap′ e k′ (is s l ∙ put-elsewhere before own s cap (λ f. joint-apart (terms .kind) limit other j (sym e ∙ f ∙ o))))
       (λ (ne : s ≡ other → ⊥).
-        is′ s l ∙ put-elsewhere mid other s cap′ ne
-        ∙ ⊎-elim
-          (λ (e : s ≡ own). is s l ∙ put-here before own s cap e k refl)
-          (λ (nf : s ≡ own → ⊥). is s l ∙ put-elsewhere before own s cap nf
-            ∙ sym (uncapped sides (held s) _ _ limit (others-take-none terms s limit (Some other) j (λ e. nf (e ∙ sym o)) (λ i h f. ne (f ∙ sym (same i h))))))
-          (cases-eq s own))
+      is′ s l ∙ put-elsewhere mid other s cap′ ne
+      ∙ ⊎-elim
+      (λ (e : s ≡ own). is s l ∙ put-here before own s cap e k refl)
+      (λ (nf : s ≡ own → ⊥). is s l ∙ put-elsewhere before own s cap nf
+      ∙ sym (uncapped sides (held s) _ _ limit (others-take-none terms s limit (Some other) j (λ e. nf (e ∙ sym o)) (λ i h f. ne (f ∙ sym (same i h))))))
+      (cases-eq s own))
       (cases-eq s other)
     where
       same : (i : ℕ) → Some other ≡ Some i → other ≡ i
       same i h = cc
+
+-- ---- what each of the two takes from an upper or a lower limit
+none-is-some : (j : ℕ) → _≡_ {A = Option ℕ} None (Some j) → ⊥
+none-is-some j h = let z : _≡_ {A = ℕ} 0 1 = cc in omega arith
+
+joint-takes : (own t j run whole : ℕ) (r : Bool) → cond r None (Some t) ≡ Some j → (j ≡ own → ⊥) → cond (eqb j own) run (cond r 0 (cond (eqb j t) whole 0)) ≡ whole
+joint-takes own t j run whole true e ne = absurd (none-is-some j e)
+joint-takes own t j run whole false e ne =
+    let u : t ≡ j = cc in
+    cond-false (eqb j own) run _ (ne-eqb j own ne) ∙ cond-true (eqb j t) whole 0 (eq-eqb j t (sym u))
+
+module _ (terms : Terms) (own : ℕ) where
+  pub upper-own : coefficientOf terms (Upper own) own ≡ offerAt terms own .«upper_run»
+  upper-own = cond-true (eqb own own) _ _ (eq-eqb own own refl)
+
+  pub lower-own : coefficientOf terms (Lower own) own ≡ offerAt terms own .«lower_run»
+  lower-own = cond-true (eqb own own) _ _ (eq-eqb own own refl)
+
+  pub upper-joint : (j : ℕ) → jointOf (terms .kind) (Upper own) ≡ Some j → coefficientOf terms (Upper own) j ≡ offerAt terms own .«bid_availability»
+  upper-joint j e = joint-takes own (upward (terms .kind)) j _ _ (regulating own) e (joint-apart (terms .kind) (Upper own) j e)
+
+  pub lower-joint : (j : ℕ) → jointOf (terms .kind) (Lower own) ≡ Some j → coefficientOf terms (Lower own) j ≡ offerAt terms own .«bid_availability»
+  lower-joint j e = joint-takes own (downward (terms .kind)) j _ _ (regulating own) e (joint-apart (terms .kind) (Lower own) j e)

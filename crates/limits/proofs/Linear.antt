@@ -151,7 +151,7 @@ module _ (terms : Terms) (row : Row) (s a : ℕ) (within : s < length (row .amou
   upper-steps b = while-live (offerAt terms b) _ held a _ _ (go (regulating b) refl)
     where
       go : (r : Bool) → regulating b ≡ r
-        → Steps (cond (eqb s b) (offerAt terms b .«upper_run») (cond r 0 (cond (eqb s (upward (terms .kind))) (offerAt terms b .«bid_availability») 0))) held a
+          → Steps (cond (eqb s b) (offerAt terms b .«upper_run») (cond r 0 (cond (eqb s (upward (terms .kind))) (offerAt terms b .«bid_availability») 0))) held a
           (upperSides (offerAt terms b) (cond r (row .energy) (raised terms row)) (amount row b)) (upperSides (offerAt terms b) (cond r (row .energy) (raised terms after)) (amount after b))
       go true p =
           ⊎-elim
@@ -162,18 +162,18 @@ module _ (terms : Terms) (row : Row) (s a : ℕ) (within : s < length (row .amou
           ⊎-elim
           (λ (e : b ≡ s). known-upper (offerAt terms b) (raised terms row) (raised terms row) _ _ held a _ _ _ _ refl (raised-same (λ u. apart b _ p (upward-regulates (terms .kind)) (e ∙ sym u))) (was b e) (here b e) (own-coefficient b _ _ e) (upper-own (offerAt terms b) held a (raised terms row)))
           (λ (ne : b ≡ s → ⊥).
-            ⊎-elim
-            (λ (u : upward (terms .kind) ≡ s). known-upper (offerAt terms b) (row .energy +ℤ pos held) (row .energy +ℤ pos a) _ _ (amount row b) (amount row b) _ _ _ _
-              (ap (λ (n : ℕ). row .energy +ℤ pos n) (was _ u)) (ap (λ (n : ℕ). row .energy +ℤ pos n) (here _ u)) refl (elsewhere b ne) (other-coefficient b _ _ ne ∙ own-coefficient _ _ _ u) (upper-joint (offerAt terms b) held a (row .energy) (amount row b)))
-            (λ (nu : upward (terms .kind) ≡ s → ⊥). known-upper (offerAt terms b) (raised terms row) (raised terms row) _ _ (amount row b) (amount row b) _ _ _ 0 refl (raised-same nu) refl (elsewhere b ne) (other-coefficient b _ _ ne ∙ other-coefficient _ _ _ nu) (unmoved 0 held a (upperSides (offerAt terms b) (raised terms row) (amount row b)) refl))
-            (cases-eq (upward (terms .kind)) s))
+          ⊎-elim
+          (λ (u : upward (terms .kind) ≡ s). known-upper (offerAt terms b) (row .energy +ℤ pos held) (row .energy +ℤ pos a) _ _ (amount row b) (amount row b) _ _ _ _
+          (ap (λ (n : ℕ). row .energy +ℤ pos n) (was _ u)) (ap (λ (n : ℕ). row .energy +ℤ pos n) (here _ u)) refl (elsewhere b ne) (other-coefficient b _ _ ne ∙ own-coefficient _ _ _ u) (upper-joint (offerAt terms b) held a (row .energy) (amount row b)))
+          (λ (nu : upward (terms .kind) ≡ s → ⊥). known-upper (offerAt terms b) (raised terms row) (raised terms row) _ _ (amount row b) (amount row b) _ _ _ 0 refl (raised-same nu) refl (elsewhere b ne) (other-coefficient b _ _ ne ∙ other-coefficient _ _ _ nu) (unmoved 0 held a (upperSides (offerAt terms b) (raised terms row) (amount row b)) refl))
+          (cases-eq (upward (terms .kind)) s))
           (cases-eq b s)
 
   lower-steps : (b : ℕ) → StepsIf (coefficientOf terms (Lower b) s) held a (sidesOf terms row (Lower b)) (sidesOf terms after (Lower b))
   lower-steps b = while-live (offerAt terms b) _ held a _ _ (go (regulating b) refl)
     where
       go : (r : Bool) → regulating b ≡ r
-        → Steps (cond (eqb s b) (offerAt terms b .«lower_run») (cond r 0 (cond (eqb s (downward (terms .kind))) (offerAt terms b .«bid_availability») 0))) held a
+          → Steps (cond (eqb s b) (offerAt terms b .«lower_run») (cond r 0 (cond (eqb s (downward (terms .kind))) (offerAt terms b .«bid_availability») 0))) held a
           (lowerSides (offerAt terms b) (cond r (row .energy) (lowered terms row)) (amount row b)) (lowerSides (offerAt terms b) (cond r (row .energy) (lowered terms after)) (amount after b))
       go true p =
           ⊎-elim
@@ -184,11 +184,11 @@ module _ (terms : Terms) (row : Row) (s a : ℕ) (within : s < length (row .amou
           ⊎-elim
           (λ (e : b ≡ s). known-lower (offerAt terms b) (lowered terms row) (lowered terms row) _ _ held a _ _ _ _ refl (lowered-same (λ u. apart b _ p (downward-regulates (terms .kind)) (e ∙ sym u))) (was b e) (here b e) (own-coefficient b _ _ e) (lower-own (offerAt terms b) held a (lowered terms row)))
           (λ (ne : b ≡ s → ⊥).
-            ⊎-elim
-            (λ (u : downward (terms .kind) ≡ s). known-lower (offerAt terms b) (row .energy -ℤ pos held) (row .energy -ℤ pos a) _ _ (amount row b) (amount row b) _ _ _ _
-              (ap (λ (n : ℕ). row .energy -ℤ pos n) (was _ u)) (ap (λ (n : ℕ). row .energy -ℤ pos n) (here _ u)) refl (elsewhere b ne) (other-coefficient b _ _ ne ∙ own-coefficient _ _ _ u) (lower-joint (offerAt terms b) held a (row .energy) (amount row b)))
-            (λ (nu : downward (terms .kind) ≡ s → ⊥). known-lower (offerAt terms b) (lowered terms row) (lowered terms row) _ _ (amount row b) (amount row b) _ _ _ 0 refl (lowered-same nu) refl (elsewhere b ne) (other-coefficient b _ _ ne ∙ other-coefficient _ _ _ nu) (unmoved 0 held a (lowerSides (offerAt terms b) (lowered terms row) (amount row b)) refl))
-            (cases-eq (downward (terms .kind)) s))
+          ⊎-elim
+          (λ (u : downward (terms .kind) ≡ s). known-lower (offerAt terms b) (row .energy -ℤ pos held) (row .energy -ℤ pos a) _ _ (amount row b) (amount row b) _ _ _ _
+          (ap (λ (n : ℕ). row .energy -ℤ pos n) (was _ u)) (ap (λ (n : ℕ). row .energy -ℤ pos n) (here _ u)) refl (elsewhere b ne) (other-coefficient b _ _ ne ∙ own-coefficient _ _ _ u) (lower-joint (offerAt terms b) held a (row .energy) (amount row b)))
+          (λ (nu : downward (terms .kind) ≡ s → ⊥). known-lower (offerAt terms b) (lowered terms row) (lowered terms row) _ _ (amount row b) (amount row b) _ _ _ 0 refl (lowered-same nu) refl (elsewhere b ne) (other-coefficient b _ _ ne ∙ other-coefficient _ _ _ nu) (unmoved 0 held a (lowerSides (offerAt terms b) (lowered terms row) (amount row b)) refl))
+          (cases-eq (downward (terms .kind)) s))
           (cases-eq b s)
 
   rise-steps : (rise : Option ℕ) → StepsIf (coefficientOf terms RampUp s) held a (mapped (λ x. record { lesser = raised terms row; greater = terms .initial +ℤ pos x }) rise) (mapped (λ x. record { lesser = raised terms after; greater = terms .initial +ℤ pos x }) rise)

@@ -40,8 +40,8 @@ below-more f s i d m h below here limit l =
     ⊎-elim
     (λ (p : place limit < 3 * s + i). below limit p)
     (λ (p : 3 * s + i ≤ place limit).
-      let e : place limit ≡ 3 * s + i = omega arith in
-      subst (λ (x : Limit). f x ≡ false) (sym (at-place limit s i d m h e)) here)
+    let e : place limit ≡ 3 * s + i = omega arith in
+    subst (λ (x : Limit). f x ≡ false) (sym (at-place limit s i d m h e)) here)
     (cases-lt (place limit) (3 * s + i))
 
 pub below-same : (f : Limit → Bool) (m n : ℕ) → m ≤ n → Below f n → Below f m

@@ -7,7 +7,7 @@ use lib.ListN.{length}
 use Rattle.std.proofs.shelf.Tests.{both-ways, not-from-false}
 use Rattle.std.specs.Orderings.{When}
 use Rattle.fcas.specs.declared.kind.Kind.{Kind}
-use Rattle.limits.specs.Figure.{Greatest, LiveFigure}
+use Rattle.limits.specs.Figure.{GreatestBorne, LiveFigure}
 use Rattle.limits.specs.Limit.{Borne, First, breaks, exceeded, limitBy, limitNumber, place, sidesOf}
 use Rattle.limits.specs.declared.figure.Figure.{Figure}
 use Rattle.limits.specs.declared.limit.Limit.{Limit}
@@ -19,16 +19,16 @@ use Rattle.limits.specs.declared.terms.Terms.{Terms}
 use Rattle.limits.proofs.Breaks.{breaks-is, exceeded-place}
 
 -- a live service's record
-pub live-figure : (kind : Kind) (broken : ℕ → Limit → Bool) (best after : Best) (f : Figure) → after ≡ best → Greatest broken (best .most) (best .limit) → f .figure ≡ after .most → f .ground ≡ limitNumber (after .limit) → f .by ≡ limitBy kind (after .limit) → LiveFigure kind broken f
+pub live-figure : (kind : Kind) (broken : ℕ → Limit → Bool) (best after : Best) (f : Figure) → after ≡ best → GreatestBorne broken (best .most) (best .limit) → f .figure ≡ after .most → f .ground ≡ limitNumber (after .limit) → f .by ≡ limitBy kind (after .limit) → LiveFigure kind broken f
 live-figure kind broken best after f e h figure ground by = record {
   limit = best .limit;
-  greatest = subst (λ (a : ℕ). Greatest broken a (best .limit)) (sym (figure ∙ ap (λ (b : Best). b .most) e)) h;
+  greatest = subst (λ (a : ℕ). GreatestBorne broken a (best .limit)) (sym (figure ∙ ap (λ (b : Best). b .most) e)) h;
   ground = ground ∙ ap (λ (b : Best). limitNumber (b .limit)) e;
   by = by ∙ ap (λ (b : Best). limitBy kind (b .limit)) e;
 }
 
 -- the same limits under another name
-pub greatest-same : (f g : ℕ → Limit → Bool) → ((a : ℕ) → f a ≡ g a) → (a : ℕ) (limit : Limit) → Greatest f a limit → Greatest g a limit
+pub greatest-same : (f g : ℕ → Limit → Bool) → ((a : ℕ) → f a ≡ g a) → (a : ℕ) (limit : Limit) → GreatestBorne f a limit → GreatestBorne g a limit
 greatest-same f g e a limit h = record {
   within = h .within;
   borne = subst (λ (b : Limit → Bool). Borne b) (e a) (h .borne);

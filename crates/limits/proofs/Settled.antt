@@ -13,7 +13,7 @@ use Rattle.std.proofs.shelf.Lists.{getD-set-same, set-set}
 use Rattle.std.proofs.shelf.Tests.{both-ways, cases-bool, cases-lt, cond-true, cond-false, le-ltb, lt-ltb, ltb-false, not-from-false}
 use Rattle.std.specs.declared.option.Option.{Option}
 use Rattle.std.specs.declared.option.Option.the-variants.{None, Some}
-use Rattle.limits.specs.Figure.{Greatest, breaksWith}
+use Rattle.limits.specs.Figure.{GreatestBorne, breaksWith}
 use Rattle.limits.specs.Limit.{First, Borne, breaks, exceeded, offerAt, place, sidesOf, whileLive}
 use Rattle.limits.specs.Narrowing.{Below, Held, exceededWith, narrowedTo}
 use Rattle.limits.specs.Plant.{Most}
@@ -66,7 +66,7 @@ module _ (allowed : Row → Bool) (terms : Terms) (row : Row) (s : ℕ) (within 
           (λ (e : allowed (withAmount row s a) ≡ false). not-from-false _ e)
           (cases-bool (allowed (withAmount row s a)))
 
-      by-plant : m < best .most → Greatest (breaksWith allowed terms row s) m Plant
+      by-plant : m < best .most → GreatestBorne (breaksWith allowed terms row s) m Plant
       by-plant l = record {
         within = most .within;
         borne = borne-at m (omega (arith, l)) (omega arith);
@@ -77,7 +77,7 @@ module _ (allowed : Row → Bool) (terms : Terms) (row : Row) (s : ℕ) (within 
         };
       }
 
-      by-limit : best .most ≤ m → Greatest (breaksWith allowed terms row s) (best .most) (best .limit)
+      by-limit : best .most ≤ m → GreatestBorne (breaksWith allowed terms row s) (best .most) (best .limit)
       by-limit l = record {
         within = small;
         borne = borne-at (best .most) (omega arith) l;
@@ -88,9 +88,9 @@ module _ (allowed : Row → Bool) (terms : Terms) (row : Row) (s : ℕ) (within 
         };
       }
 
-      pub settled : Greatest (breaksWith allowed terms row s) (narrowedTo best (Some m) Plant .most) (narrowedTo best (Some m) Plant .limit)
+      pub settled : GreatestBorne (breaksWith allowed terms row s) (narrowedTo best (Some m) Plant .most) (narrowedTo best (Some m) Plant .limit)
       settled =
           ⊎-elim
-          (λ (l : m < best .most). subst (λ (b : Best). Greatest (breaksWith allowed terms row s) (b .most) (b .limit)) (sym (cond-true (ltb m (best .most)) (record { most = m; limit = Plant }) best (lt-ltb m (best .most) l))) (by-plant l))
-          (λ (l : best .most ≤ m). subst (λ (b : Best). Greatest (breaksWith allowed terms row s) (b .most) (b .limit)) (sym (cond-false (ltb m (best .most)) (record { most = m; limit = Plant }) best (le-ltb m (best .most) l))) (by-limit l))
+          (λ (l : m < best .most). subst (λ (b : Best). GreatestBorne (breaksWith allowed terms row s) (b .most) (b .limit)) (sym (cond-true (ltb m (best .most)) (record { most = m; limit = Plant }) best (lt-ltb m (best .most) l))) (by-plant l))
+          (λ (l : best .most ≤ m). subst (λ (b : Best). GreatestBorne (breaksWith allowed terms row s) (b .most) (b .limit)) (sym (cond-false (ltb m (best .most)) (record { most = m; limit = Plant }) best (le-ltb m (best .most) l))) (by-limit l))
           (cases-lt m (best .most))

@@ -20,33 +20,33 @@ abbrev pub breaksWith : (Row → Bool) → Terms → Row → ℕ → ℕ → Lim
 breaksWith allowed terms row service a = breaks allowed terms (withAmount row service a)
 
 -- The amount a is borne, every other amount that is borne is less, and one more breaks the limit first.
-pub record Greatest (broken : ℕ → Limit → Bool) (a : ℕ) (limit : Limit) : Type 0 where
+pub record GreatestBorne (broken : ℕ → Limit → Bool) (a : ℕ) (limit : Limit) : Type 0 where
   pub within : a ≤ 4000000
   pub borne : Borne (broken a)
   pub others : (b : ℕ) → b ≤ 4000000 → Borne (broken b) → (b ≡ a → ⊥) → b < a
   pub next : First (broken (a + 1)) limit
 
 -- A record of a live service: its figure, and the ground and by of the limit.
-pub record LiveFigure (kind : Kind) (broken : ℕ → Limit → Bool) (record′ : Figure) : Type 0 where
+pub record LiveFigure (kind : Kind) (broken : ℕ → Limit → Bool) (told : Figure) : Type 0 where
   pub limit : Limit
-  pub greatest : Greatest broken (record′ .figure) limit
-  pub ground : record′ .ground ≡ limitNumber limit
-  pub by : record′ .by ≡ limitBy kind limit
+  pub greatest : GreatestBorne broken (told .figure) limit
+  pub ground : told .ground ≡ limitNumber limit
+  pub by : told .by ≡ limitBy kind limit
 
 -- A record of a service that is not live: 0, the ground that keeps it out, and itself.
-pub record DeadFigure (terms : Terms) (service : ℕ) (record′ : Figure) : Type 0 where
-  pub figure : record′ .figure ≡ 0
-  pub ground : record′ .ground ≡ offerAt terms service .ground
-  pub by : record′ .by ≡ service
+pub record DeadFigure (terms : Terms) (service : ℕ) (told : Figure) : Type 0 where
+  pub figure : told .figure ≡ 0
+  pub ground : told .ground ≡ offerAt terms service .ground
+  pub by : told .by ≡ service
 
 -- The record of a service at a row, live or not.
 abbrev pub FigureAt : (Row → Bool) → Terms → Row → ℕ → Figure → Type 0
-FigureAt allowed terms row service record′ = When (offerAt terms service .live) (LiveFigure (terms .kind) (breaksWith allowed terms row service) record′) (DeadFigure terms service record′)
+FigureAt allowed terms row service told = When (offerAt terms service .live) (LiveFigure (terms .kind) (breaksWith allowed terms row service) told) (DeadFigure terms service told)
 
 -- What a probe gives: nothing exactly where the service is not live or not even 0 is borne.
 abbrev pub Probed : (Row → Bool) → Terms → Row → ℕ → Option Figure → Type 0
 Probed allowed terms row service None = offerAt terms service .live ≡ true → Borne (breaksWith allowed terms row service 0) → ⊥
-Probed allowed terms row service (Some record′) = (offerAt terms service .live ≡ true) × Borne (breaksWith allowed terms row service 0) × LiveFigure (terms .kind) (breaksWith allowed terms row service) record′
+Probed allowed terms row service (Some told) = (offerAt terms service .live ≡ true) × Borne (breaksWith allowed terms row service 0) × LiveFigure (terms .kind) (breaksWith allowed terms row service) told
 
 -- The place of a service that is none.
 abbrev pub noFigure : Figure

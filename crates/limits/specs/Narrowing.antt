@@ -77,7 +77,7 @@ noBest = record { most = 0; limit = Availability 0 }
 abbrev pub NarrowedAll : Terms → Row → Limit → List Best → List Best → Bool → Type 0
 NarrowedAll terms row limit before after false = exceeded (sidesOf terms row limit) ≡ true
 NarrowedAll terms row limit before after true = (exceeded (sidesOf terms row limit) ≡ false)
-  × ((s : ℕ) → s < 10 → getD after s noBest ≡ narrowedTo (getD before s noBest) (capBy (sidesOf terms row limit) (amount row s) (coefficientOf terms limit s)) limit)
+    × ((s : ℕ) → s < 10 → getD after s noBest ≡ narrowedTo (getD before s noBest) (capBy (sidesOf terms row limit) (amount row s) (coefficientOf terms limit s)) limit)
 
 -- No limit before a place breaks.
 abbrev pub Below : (Limit → Bool) → ℕ → Type 0

@@ -50,7 +50,12 @@ impl Figure {
 }
 
 // The figure of a live service at a row, whatever its amount there; nothing where the service is not live or not even 0 is borne.
-pub fn probe<P: PlantLimit>(terms: &CheckedTerms, row: &CheckedRow, plant: &P, service: Service) -> Option<Figure>
+pub fn probe<P: PlantLimit>(
+    terms: &CheckedTerms,
+    row: &CheckedRow,
+    plant: &P,
+    service: Service,
+) -> Option<Figure>
     ensures value { λ r. ⌜ Probed (P·PlantLimit .allowed (now (plant .entry))) (now (terms .entry) .terms) (now (row .entry) .row) (service .number) r ⌝ }
     ensures terms_kept { λ _. ⌜ now (terms .exit) ≡ now (terms .entry) ⌝ }
     ensures row_kept { λ _. ⌜ now (row .exit) ≡ now (row .entry) ⌝ }
@@ -66,7 +71,13 @@ pub fn probe<P: PlantLimit>(terms: &CheckedTerms, row: &CheckedRow, plant: &P, s
 }
 
 // The record of one service of a borne row.
-fn settle<P: PlantLimit>(terms: &CheckedTerms, row: &CheckedRow, plant: &P, service: Service, best: Best) -> Figure
+fn settle<P: PlantLimit>(
+    terms: &CheckedTerms,
+    row: &CheckedRow,
+    plant: &P,
+    service: Service,
+    best: Best,
+) -> Figure
     requires held { ⌜ Held (exceededWith (now terms .terms) (now row .row) (service .number)) 32 best ⌝ }
     requires allowed { ⌜ P·PlantLimit .allowed (now plant) (now row .row) ≡ true ⌝ }
     ensures { λ r. ⌜ FigureAt (P·PlantLimit .allowed (now (plant .entry))) (now (terms .entry) .terms) (now (row .entry) .row) (service .number) r ⌝ }
@@ -81,7 +92,11 @@ fn settle<P: PlantLimit>(terms: &CheckedTerms, row: &CheckedRow, plant: &P, serv
 }
 
 // The records of all ten services of a row, worked out together; nothing where the row is not borne.
-pub fn figures<P: PlantLimit>(terms: &CheckedTerms, row: &CheckedRow, plant: &P) -> Option<[Figure; 10]>
+pub fn figures<P: PlantLimit>(
+    terms: &CheckedTerms,
+    row: &CheckedRow,
+    plant: &P,
+) -> Option<[Figure; 10]>
     ensures value { λ r. ⌜ AllFigures (P·PlantLimit .allowed (now (plant .entry))) (now (terms .entry) .terms) (now (row .entry) .row) r ⌝ }
     ensures terms_kept { λ _. ⌜ now (terms .exit) ≡ now (terms .entry) ⌝ }
     ensures row_kept { λ _. ⌜ now (row .exit) ≡ now (row .entry) ⌝ }
@@ -97,7 +112,13 @@ pub fn figures<P: PlantLimit>(terms: &CheckedTerms, row: &CheckedRow, plant: &P)
         by: 0,
     }; 10];
     for number in 0..10u8 {
-        table[number as usize] = settle(terms, row, plant, Service { number }, best[number as usize]);
+        table[number as usize] = settle(
+            terms,
+            row,
+            plant,
+            Service { number },
+            best[number as usize],
+        );
     }
     Some(table)
 }

@@ -43,20 +43,8 @@ impl Limit {
     {
         match self {
             Limit::Availability(_) => 1,
-            Limit::Upper(service) => {
-                if is_regulating(service) {
-                    2
-                } else {
-                    4
-                }
-            }
-            Limit::Lower(service) => {
-                if is_regulating(service) {
-                    3
-                } else {
-                    5
-                }
-            }
+            Limit::Upper(service) => { if is_regulating(service) { 2 } else { 4 } }
+            Limit::Lower(service) => { if is_regulating(service) { 3 } else { 5 } }
             Limit::RampUp => 6,
             Limit::RampDown => 7,
             Limit::Plant => 8,
@@ -133,7 +121,11 @@ impl CheckedTerms {
         ensures value { λ r. ⌜ r ≡ offerAt (now (self .entry) .terms) service ⌝ }
         ensures powers { λ r. ⌜ Powers r ⌝ }
     {
-        if service > 9 { NO_OFFER } else { self.terms.offers[service as usize] }
+        if service > 9 {
+            NO_OFFER
+        } else {
+            self.terms.offers[service as usize]
+        }
     }
 
     // The energy with the upward amount added.
@@ -154,7 +146,7 @@ impl CheckedTerms {
 }
 
 impl CheckedTerms {
-    fn availability_sides(&self, row: &CheckedRow, service: u8) -> Option<Sides>
+    pub(crate) fn availability_sides(&self, row: &CheckedRow, service: u8) -> Option<Sides>
         ensures value { λ r. ⌜ r ≡ sidesOf (now (self .entry) .terms) (now (row .entry) .row) (Limit.Availability service) ⌝ }
         ensures bound { λ r. ⌜ BoundedIf r ⌝ }
     {
@@ -168,7 +160,7 @@ impl CheckedTerms {
         })
     }
 
-    fn upper_limit_sides(&self, row: &CheckedRow, service: u8) -> Option<Sides>
+    pub(crate) fn upper_limit_sides(&self, row: &CheckedRow, service: u8) -> Option<Sides>
         ensures value { λ r. ⌜ r ≡ sidesOf (now (self .entry) .terms) (now (row .entry) .row) (Limit.Upper service) ⌝ }
         ensures bound { λ r. ⌜ BoundedIf r ⌝ }
     {
@@ -176,11 +168,15 @@ impl CheckedTerms {
         if !offer.live {
             return None;
         }
-        let energy = if is_regulating(service) { i64::from(row.row.energy) } else { self.raised(row) };
+        let energy = if is_regulating(service) {
+            i64::from(row.row.energy)
+        } else {
+            self.raised(row)
+        };
         Some(upper_sides(offer, energy, row.amount(service)))
     }
 
-    fn lower_limit_sides(&self, row: &CheckedRow, service: u8) -> Option<Sides>
+    pub(crate) fn lower_limit_sides(&self, row: &CheckedRow, service: u8) -> Option<Sides>
         ensures value { λ r. ⌜ r ≡ sidesOf (now (self .entry) .terms) (now (row .entry) .row) (Limit.Lower service) ⌝ }
         ensures bound { λ r. ⌜ BoundedIf r ⌝ }
     {
@@ -188,7 +184,11 @@ impl CheckedTerms {
         if !offer.live {
             return None;
         }
-        let energy = if is_regulating(service) { i64::from(row.row.energy) } else { self.lowered(row) };
+        let energy = if is_regulating(service) {
+            i64::from(row.row.energy)
+        } else {
+            self.lowered(row)
+        };
         Some(lower_sides(offer, energy, row.amount(service)))
     }
 
@@ -210,7 +210,7 @@ impl CheckedTerms {
         i64::from(self.terms.initial) - i64::from(fall)
     }
 
-    fn ramp_up_sides(&self, row: &CheckedRow) -> Option<Sides>
+    pub(crate) fn ramp_up_sides(&self, row: &CheckedRow) -> Option<Sides>
         ensures value { λ r. ⌜ r ≡ sidesOf (now (self .entry) .terms) (now (row .entry) .row) Limit.RampUp ⌝ }
         ensures bound { λ r. ⌜ BoundedIf r ⌝ }
     {
@@ -226,7 +226,7 @@ impl CheckedTerms {
         }
     }
 
-    fn ramp_down_sides(&self, row: &CheckedRow) -> Option<Sides>
+    pub(crate) fn ramp_down_sides(&self, row: &CheckedRow) -> Option<Sides>
         ensures value { λ r. ⌜ r ≡ sidesOf (now (self .entry) .terms) (now (row .entry) .row) Limit.RampDown ⌝ }
         ensures bound { λ r. ⌜ BoundedIf r ⌝ }
     {
@@ -277,7 +277,11 @@ impl CheckedTerms {
     {
         let mut broken = None;
         'search: for service in 0..10u8 {
-            for limit in [Limit::Availability(service), Limit::Upper(service), Limit::Lower(service)] {
+            for limit in [
+                Limit::Availability(service),
+                Limit::Upper(service),
+                Limit::Lower(service),
+            ] {
                 if self.exceeds(row, limit) {
                     broken = Some(limit);
                     break 'search;
@@ -320,7 +324,11 @@ pub(crate) fn is_allowed<P: PlantLimit>(plant: &P, row: &CheckedRow) -> bool
 }
 
 // The first limit of the order that a row breaks.
-pub fn first_broken<P: PlantLimit>(terms: &CheckedTerms, row: &CheckedRow, plant: &P) -> Option<Limit>
+pub fn first_broken<P: PlantLimit>(
+    terms: &CheckedTerms,
+    row: &CheckedRow,
+    plant: &P,
+) -> Option<Limit>
     ensures value { λ r. ⌜ Finds (breaks (P·PlantLimit .allowed (now (plant .entry))) (now (terms .entry) .terms) (now (row .entry) .row)) r ⌝ }
     ensures terms_kept { λ _. ⌜ now (terms .exit) ≡ now (terms .entry) ⌝ }
     ensures row_kept { λ _. ⌜ now (row .exit) ≡ now (row .entry) ⌝ }
@@ -328,5 +336,8 @@ pub fn first_broken<P: PlantLimit>(terms: &CheckedTerms, row: &CheckedRow, plant
 {
     let rise_breaks = terms.exceeds(row, Limit::RampUp);
     let fall_breaks = terms.exceeds(row, Limit::RampDown);
-    earlier(terms.first_of_services(row), first_of_row(rise_breaks, fall_breaks, is_allowed(plant, row)))
+    earlier(
+        terms.first_of_services(row),
+        first_of_row(rise_breaks, fall_breaks, is_allowed(plant, row)),
+    )
 }

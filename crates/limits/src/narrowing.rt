@@ -5,8 +5,8 @@ ghost use lib.IntN.{natAbs, _-ℤ_};
 ghost use lib.ListN.{getD};
 ghost use mathlib.Core.Bool.{cond, false};
 ghost use mathlib.Core.Path.{_≡_};
-ghost use Rattle.limits.specs.Bounds.{Bounded};
-ghost use Rattle.limits.specs.Limit.{exceeded, sidesOf};
+ghost use Rattle.limits.specs.Bounds.{Bounded, BoundedIf};
+ghost use Rattle.limits.specs.Limit.{exceeded, limitBy, sidesOf};
 ghost use Rattle.limits.specs.Narrowing.{capOf, coefficientOf, jointOf, Least, LeastOfAll, Narrowed, NarrowedAll, narrowedTo, noBest};
 ghost use Rattle.limits.specs.Row.{amount as amount-of};
 ghost use Rattle.std.specs.declared.option.Option.the-variants.{Some};
@@ -132,7 +132,13 @@ fn narrow_place(best: &mut [Best; 10], service: u8, cap: Option<u32>, limit: Lim
 
 impl CheckedTerms {
     // What a limit makes of the least so far of one service.
-    pub(crate) fn narrow(&self, row: &CheckedRow, limit: Limit, service: u8, best: Best) -> Option<Best>
+    pub(crate) fn narrow(
+        &self,
+        row: &CheckedRow,
+        limit: Limit,
+        service: u8,
+        best: Best,
+    ) -> Option<Best>
         ensures { λ r. ⌜ Narrowed (sidesOf (now (self .entry) .terms) (now (row .entry) .row) limit) (amount-of (now (row .entry) .row) service) (coefficientOf (now (self .entry) .terms) limit service) best limit r ⌝ }
     {
         let Some(sides) = self.sides(row, limit) else {
@@ -141,14 +147,35 @@ impl CheckedTerms {
         if sides.greater < sides.lesser {
             return None;
         }
-        Some(best.narrowed(cap(row.amount(service), room(sides), self.coefficient(limit, service)), limit))
+        Some(best.narrowed(
+            cap(
+                row.amount(service),
+                room(sides),
+                self.coefficient(limit, service),
+            ),
+            limit,
+        ))
     }
 
-    // What a limit makes of the least so far of every service; false where the row breaks the limit. At most two services take from its room.
-    pub(crate) fn narrow_all(&self, row: &CheckedRow, limit: Limit, best: &mut [Best; 10]) -> bool
+    // What a limit makes of the least so far of every service; false where the row breaks the limit. At most two services take from its room: its own and, by their coefficients, the joint one.
+    fn narrow_all(
+        &self,
+        row: &CheckedRow,
+        limit: Limit,
+        sides: Option<Sides>,
+        coefficient: u32,
+        joint: Option<u8>,
+        joint_coefficient: u32,
+        best: &mut [Best; 10],
+    ) -> bool
+        requires sides { ⌜ sides ≡ sidesOf (now self .terms) (now row .row) limit ⌝ }
+        requires bound { ⌜ BoundedIf sides ⌝ }
+        requires own { ⌜ coefficient ≡ coefficientOf (now self .terms) limit (limitBy (now self .terms .kind) limit) ⌝ }
+        requires joint { ⌜ joint ≡ jointOf (now self .terms .kind) limit ⌝ }
+        requires other { ⌜ ((j : ℕ) → joint ≡ Some j → «joint_coefficient» ≡ coefficientOf (now self .terms) limit j) ⌝ }
         ensures { λ r. ⌜ NarrowedAll (now (self .entry) .terms) (now (row .entry) .row) limit (now (best .entry)) (now (best .exit)) r ⌝ }
     {
-        let Some(sides) = self.sides(row, limit) else {
+        let Some(sides) = sides else {
             return true;
         };
         if sides.greater < sides.lesser {
@@ -156,11 +183,90 @@ impl CheckedTerms {
         }
         let room = room(sides);
         let own = limit.by(self.terms.kind);
-        narrow_place(best, own, cap(row.amount(own), room, self.coefficient(limit, own)), limit);
-        if let Some(other) = joint(self.terms.kind, limit) {
-            narrow_place(best, other, cap(row.amount(other), room, self.coefficient(limit, other)), limit);
+        narrow_place(best, own, cap(row.amount(own), room, coefficient), limit);
+        if let Some(other) = joint {
+            narrow_place(
+                best,
+                other,
+                cap(row.amount(other), room, joint_coefficient),
+                limit,
+            );
         }
         true
+    }
+
+    fn narrow_availability(&self, row: &CheckedRow, own: u8, best: &mut [Best; 10]) -> bool
+        ensures { λ r. ⌜ NarrowedAll (now (self .entry) .terms) (now (row .entry) .row) (Limit.Availability own) (now (best .entry)) (now (best .exit)) r ⌝ }
+    {
+        self.narrow_all(
+            row,
+            Limit::Availability(own),
+            self.availability_sides(row, own),
+            1,
+            None,
+            0,
+            best,
+        )
+    }
+
+    fn narrow_upper(&self, row: &CheckedRow, own: u8, best: &mut [Best; 10]) -> bool
+        ensures { λ r. ⌜ NarrowedAll (now (self .entry) .terms) (now (row .entry) .row) (Limit.Upper own) (now (best .entry)) (now (best .exit)) r ⌝ }
+    {
+        let offer = self.offer(own);
+        let joint = joint(self.terms.kind, Limit::Upper(own));
+        self.narrow_all(
+            row,
+            Limit::Upper(own),
+            self.upper_limit_sides(row, own),
+            offer.upper_run,
+            joint,
+            offer.bid_availability,
+            best,
+        )
+    }
+
+    fn narrow_lower(&self, row: &CheckedRow, own: u8, best: &mut [Best; 10]) -> bool
+        ensures { λ r. ⌜ NarrowedAll (now (self .entry) .terms) (now (row .entry) .row) (Limit.Lower own) (now (best .entry)) (now (best .exit)) r ⌝ }
+    {
+        let offer = self.offer(own);
+        let joint = joint(self.terms.kind, Limit::Lower(own));
+        self.narrow_all(
+            row,
+            Limit::Lower(own),
+            self.lower_limit_sides(row, own),
+            offer.lower_run,
+            joint,
+            offer.bid_availability,
+            best,
+        )
+    }
+
+    fn narrow_rise(&self, row: &CheckedRow, best: &mut [Best; 10]) -> bool
+        ensures { λ r. ⌜ NarrowedAll (now (self .entry) .terms) (now (row .entry) .row) Limit.RampUp (now (best .entry)) (now (best .exit)) r ⌝ }
+    {
+        self.narrow_all(
+            row,
+            Limit::RampUp,
+            self.ramp_up_sides(row),
+            1,
+            None,
+            0,
+            best,
+        )
+    }
+
+    fn narrow_fall(&self, row: &CheckedRow, best: &mut [Best; 10]) -> bool
+        ensures { λ r. ⌜ NarrowedAll (now (self .entry) .terms) (now (row .entry) .row) Limit.RampDown (now (best .entry)) (now (best .exit)) r ⌝ }
+    {
+        self.narrow_all(
+            row,
+            Limit::RampDown,
+            self.ramp_down_sides(row),
+            1,
+            None,
+            0,
+            best,
+        )
     }
 }
 
@@ -174,7 +280,11 @@ impl CheckedTerms {
             limit: Limit::Plant,
         };
         for own in 0..10u8 {
-            for limit in [Limit::Availability(own), Limit::Upper(own), Limit::Lower(own)] {
+            for limit in [
+                Limit::Availability(own),
+                Limit::Upper(own),
+                Limit::Lower(own),
+            ] {
                 best = self.narrow(row, limit, service.number, best)?;
             }
         }
@@ -191,16 +301,20 @@ impl CheckedTerms {
             limit: Limit::Plant,
         }; 10];
         for own in 0..10u8 {
-            for limit in [Limit::Availability(own), Limit::Upper(own), Limit::Lower(own)] {
-                if !self.narrow_all(row, limit, &mut best) {
-                    return None;
-                }
+            if !self.narrow_availability(row, own, &mut best) {
+                return None;
+            }
+            if !self.narrow_upper(row, own, &mut best) {
+                return None;
+            }
+            if !self.narrow_lower(row, own, &mut best) {
+                return None;
             }
         }
-        if !self.narrow_all(row, Limit::RampUp, &mut best) {
+        if !self.narrow_rise(row, &mut best) {
             return None;
         }
-        if !self.narrow_all(row, Limit::RampDown, &mut best) {
+        if !self.narrow_fall(row, &mut best) {
             return None;
         }
         Some(best)

@@ -53,7 +53,12 @@ fn offer_of_bid(kind: Kind, service: Service, bid: &CheckedBid, reading: &Checke
 }
 
 // What a service has to offer.
-fn offer_of(kind: Kind, service: Service, bid: &Option<CheckedBid>, reading: &CheckedReading) -> Offer
+fn offer_of(
+    kind: Kind,
+    service: Service,
+    bid: &Option<CheckedBid>,
+    reading: &CheckedReading,
+) -> Offer
     ensures value { λ r. ⌜ r ≡ offerOf kind (now (reading .entry) .measured) (service .number) (mapped (λ checked. checked .bid) (now (bid .entry))) ⌝ }
     ensures bound { λ r. ⌜ inBounds r ≡ true ⌝ }
 {
@@ -70,14 +75,23 @@ fn offers_of(kind: Kind, bids: &[Option<CheckedBid>; 10], reading: &CheckedReadi
 {
     let mut offers = [NO_OFFER; 10];
     for number in 0..10u8 {
-        offers[number as usize] = offer_of(kind, Service { number }, &bids[number as usize], reading);
+        offers[number as usize] = offer_of(
+            kind,
+            Service { number },
+            &bids[number as usize],
+            reading,
+        );
     }
     offers
 }
 
 impl CheckedTerms {
     // The terms of a unit of the kind, with these bids and this reading.
-    pub fn new(kind: Kind, bids: &[Option<CheckedBid>; 10], reading: &CheckedReading) -> CheckedTerms
+    pub fn new(
+        kind: Kind,
+        bids: &[Option<CheckedBid>; 10],
+        reading: &CheckedReading,
+    ) -> CheckedTerms
         ensures value { λ r. ⌜ r .terms ≡ termsOf kind (heldBids (now (bids .entry))) (now (reading .entry) .measured) ⌝ }
         ensures bids_kept { λ _. ⌜ now (bids .exit) ≡ now (bids .entry) ⌝ }
         ensures reading_kept { λ _. ⌜ now (reading .exit) ≡ now (reading .entry) ⌝ }

@@ -47,7 +47,11 @@ impl CheckedRow {
         ensures value { λ r. ⌜ r ≡ amount-of (now (self .entry) .row) service ⌝ }
         ensures bound { λ r. ⌜ r ≤ 4000000 ⌝ }
     {
-        if service > 9 { 0 } else { self.row.amounts[service as usize] }
+        if service > 9 {
+            0
+        } else {
+            self.row.amounts[service as usize]
+        }
     }
 
     // The row with none of a service.

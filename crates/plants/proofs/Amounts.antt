@@ -27,7 +27,7 @@ pub falls : (allowed : Row → Bool) (s : ℕ) → ((r : Row) (a : ℕ) → a �
 falls allowed s lowering row a b l h =
     ⊎-elim
     (λ (m : s < length (row .amounts)).
-      subst (λ (xs : List ℕ). allowed (of-amounts row xs) ≡ true) (set-set (row .amounts) s b a)
-      (lowering (withAmount row s b) a (subst (λ (x : ℕ). a ≤ x) (sym (getD-set-same (row .amounts) s b 0 m)) l) h))
+    subst (λ (xs : List ℕ). allowed (of-amounts row xs) ≡ true) (set-set (row .amounts) s b a)
+    (lowering (withAmount row s b) a (subst (λ (x : ℕ). a ≤ x) (sym (getD-set-same (row .amounts) s b 0 m)) l) h))
     (λ (m : length (row .amounts) ≤ s). subst (λ (xs : List ℕ). allowed (of-amounts row xs) ≡ true) (set-past (row .amounts) s b m ∙ sym (set-past (row .amounts) s a m)) h)
     (cases-lt s (length (row .amounts)))

@@ -76,11 +76,11 @@ module _ (plant : ConnectionCap) (row : Row) (s : ℕ) (within : s < length (row
   room-adds t a =
       ⊎-elim
       (λ (f : eqb s u ≡ true).
-        let e = eqb-true s u f in
-        rw (ap (amount row) e, here a u e, elsewhere a d (λ g. apart (row .kind) (sym e ∙ g))) (first-takes (row .energy) (amount row u) (amount row d) a (capOfUnit plant (row .unit))))
+      let e = eqb-true s u f in
+      rw (ap (amount row) e, here a u e, elsewhere a d (λ g. apart (row .kind) (sym e ∙ g))) (first-takes (row .energy) (amount row u) (amount row d) a (capOfUnit plant (row .unit))))
       (λ (g : eqb s d ≡ true).
-        let e = eqb-true s d g in
-        rw (ap (amount row) e, here a d e, elsewhere a u (λ f. apart (row .kind) (sym f ∙ e))) (second-takes (row .energy) (amount row u) (amount row d) a (capOfUnit plant (row .unit))))
+      let e = eqb-true s d g in
+      rw (ap (amount row) e, here a d e, elsewhere a u (λ f. apart (row .kind) (sym f ∙ e))) (second-takes (row .energy) (amount row u) (amount row d) a (capOfUnit plant (row .unit))))
       (or-cases (eqb s u) (eqb s d) t)
 
   -- and of one that does not

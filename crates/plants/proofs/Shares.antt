@@ -62,16 +62,16 @@ raise-moves : (row : Row) (s a : ℕ) → length (row .amounts) ≡ 10 → s < 5
 raise-moves row s v n l =
     by-ten (λ xs. Raised (of-amounts row xs) v s)
     (λ a b c d e f g h i j.
-      under-five (Raised (of-amounts row (a ∷ b ∷ c ∷ d ∷ e ∷ f ∷ g ∷ h ∷ i ∷ j ∷ [])) v)
-      (omega arith, refl) (omega arith, refl) (omega arith, refl) (omega arith, refl) (omega arith, refl) s l)
+    under-five (Raised (of-amounts row (a ∷ b ∷ c ∷ d ∷ e ∷ f ∷ g ∷ h ∷ i ∷ j ∷ [])) v)
+    (omega arith, refl) (omega arith, refl) (omega arith, refl) (omega arith, refl) (omega arith, refl) s l)
     (row .amounts) n
 
 lower-moves : (row : Row) (t a : ℕ) → length (row .amounts) ≡ 10 → t < 5 → Lowered row a t
 lower-moves row t v n l =
     by-ten (λ xs. Lowered (of-amounts row xs) v t)
     (λ a b c d e f g h i j.
-      under-five (Lowered (of-amounts row (a ∷ b ∷ c ∷ d ∷ e ∷ f ∷ g ∷ h ∷ i ∷ j ∷ [])) v)
-      (omega arith, refl) (omega arith, refl) (omega arith, refl) (omega arith, refl) (omega arith, refl) t l)
+    under-five (Lowered (of-amounts row (a ∷ b ∷ c ∷ d ∷ e ∷ f ∷ g ∷ h ∷ i ∷ j ∷ [])) v)
+    (omega arith, refl) (omega arith, refl) (omega arith, refl) (omega arith, refl) (omega arith, refl) t l)
     (row .amounts) n
 
 -- what is left of a share

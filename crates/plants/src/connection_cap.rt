@@ -40,7 +40,8 @@ fn flow(row: &Row) -> i64
     let upward = row.kind.upward().number;
     let delayed = delayed(row.kind);
     let amounts = &row.amounts;
-    i64::from(row.energy) + (i64::from(amounts[upward as usize]) + i64::from(amounts[delayed as usize]))
+    i64::from(row.energy)
+        + (i64::from(amounts[upward as usize]) + i64::from(amounts[delayed as usize]))
 }
 
 // Whether a service adds to the flow.
@@ -54,7 +55,11 @@ impl ConnectionCap {
     fn cap(&self, unit: u32) -> u32
         ensures { λ r. ⌜ r ≡ capOfUnit (now (self .entry)) unit ⌝ }
     {
-        if unit < 24 { self.caps[unit as usize] } else { 0 }
+        if unit < 24 {
+            self.caps[unit as usize]
+        } else {
+            0
+        }
     }
 
     // What the cap leaves to a service that holds so much of the flow.

@@ -40,7 +40,11 @@ fn share_left(share: u32, together: u64, amount: u32, service: u8) -> Option<u32
     requires together { ⌜ together < 21474836480 ⌝ }
     ensures { λ r. ⌜ Greatest (λ a. leZ (pos a) (pos share -ℤ (pos together -ℤ pos amount))) service r ⌝ }
 {
-    greatest(i64::from(share) - (together as i64 - i64::from(amount)), true, service)
+    greatest(
+        i64::from(share) - (together as i64 - i64::from(amount)),
+        true,
+        service,
+    )
 }
 
 pub impl PlantLimit for GovernorShare as GovernorShareLimit {

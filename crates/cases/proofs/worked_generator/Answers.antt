@@ -24,7 +24,7 @@ returns-in-Break-lower c = absurd (never _ _ (trapezium-known _ 9 _ lowerBid low
 pub returns : need.returns
 returns c = record {
   by-code = same _ _ _ _
-    (trapezium-known _ 4 _ raiseBid raiseTrapezium _ (c .upward .ensures) (c .raise-bid .ensures) refl (worked .raise) (c .in-Continue-raise .ensures tt))
-    (trapezium-known _ 9 _ lowerBid lowerTrapezium _ (c .downward .ensures) (c .lower-bid .ensures) refl (worked .lower) (c .in-Continue-lower .ensures tt));
+      (trapezium-known _ 4 _ raiseBid raiseTrapezium _ (c .upward .ensures) (c .raise-bid .ensures) refl (worked .raise) (c .in-Continue-raise .ensures tt))
+      (trapezium-known _ 9 _ lowerBid lowerTrapezium _ (c .downward .ensures) (c .lower-bid .ensures) refl (worked .lower) (c .in-Continue-lower .ensures tt));
   by-rules = worked;
 }

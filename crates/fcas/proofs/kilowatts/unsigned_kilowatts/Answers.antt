@@ -34,6 +34,6 @@ returns c =
       value = ap natAbs (e ∙ sym (p .2));
       most = subst (λ (z : ℤ). natAbs z ≤ 4000000) (sym e) (p .1);
       ramp = λ h.
-        let r = unsigned-ramp (c .args .megawatts) h in
-        subst (λ (z : ℤ). natAbs z ≤ 800000) (sym (e ∙ sym (p .2) ∙ r .2)) (r .1);
+          let r = unsigned-ramp (c .args .megawatts) h in
+          subst (λ (z : ℤ). natAbs z ≤ 800000) (sym (e ∙ sym (p .2) ∙ r .2)) (r .1);
     }

@@ -26,16 +26,17 @@ returns-then-not-is-allowed g c = record {
 
 pub loop-number-again : need.loop-number-again
 loop-number-again g c =
-    let within : c .loop-number .number < length (c .loop-number .table) = omega (arith, c .loop-number .inv .0) in
-    (length-set (c .loop-number .table) (c .loop-number .number) (c .settle .result) ∙ c .loop-number .inv .0,
-    place-more (FigureAt (g .P·PlantLimit .allowed (c .args .plant .now)) (c .args .terms .now .terms) (c .args .row .now .row)) noFigure (c .loop-number .table) (c .loop-number .number) (c .settle .result) within (c .loop-number .inv .1) (c .settle .ensures))
+    let within : c .loop-number .number < length (c .loop-number .table) = omega (arith, c .loop-number .inv .0) in (
+      length-set (c .loop-number .table) (c .loop-number .number) (c .settle .result) ∙ c .loop-number .inv .0,
+      place-more (FigureAt (g .P·PlantLimit .allowed (c .args .plant .now)) (c .args .terms .now .terms) (c .args .row .now .row)) noFigure (c .loop-number .table) (c .loop-number .number) (c .settle .result) within (c .loop-number .inv .1) (c .settle .ensures),
+    )
 
 pub returns : need.returns
 returns g c = record {
   value = (
     borne (c .args .terms .now .terms) (c .args .row .now .row) (c .args .terms .now .ten) (g .P·PlantLimit .allowed (c .args .plant .now))
-      (below-breaks (c .args .terms .now .terms) (c .args .row .now .row) (c .args .terms .now .ten) (g .P·PlantLimit .allowed (c .args .plant .now)) 32 (omega arith) (c .in-Continue-best .ensures tt .1))
-      (sym (c .if-not-is-allowed .ensures tt)),
+        (below-breaks (c .args .terms .now .terms) (c .args .row .now .row) (c .args .terms .now .ten) (g .P·PlantLimit .allowed (c .args .plant .now)) 32 (omega arith) (c .in-Continue-best .ensures tt .1))
+        (sym (c .if-not-is-allowed .ensures tt)),
     λ service l. c .loop-number .inv .1 service (omega (arith, l)),
   );
   terms-kept = refl;

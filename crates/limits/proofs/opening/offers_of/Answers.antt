@@ -24,10 +24,11 @@ pub loop-number-again : need.loop-number-again
 loop-number-again c =
     let within : c .loop-number .number < length (c .loop-number .offers) = omega (arith, c .loop-number .inv .0) in
     let read = getD-default (c .args .bids .now) (c .loop-number .number) (c .index-bids-number .result) None (omega (arith, c .told-bids)) in
-    let known = of-bid (c .args .kind) (c .args .reading .now .measured) (c .loop-number .number) (c .offer-of .result) _ _ (c .offer-of .ensures .value) read in
-    (length-set (c .loop-number .offers) (c .loop-number .number) (c .offer-of .result) ∙ c .loop-number .inv .0,
-    place-more (λ (s : ℕ) (o : Offer). (o ≡ offerOf (c .args .kind) (c .args .reading .now .measured) s (mapped (λ checked. checked .bid) (getD (c .args .bids .now) s None))) × (inBounds o ≡ true))
-      noOffer (c .loop-number .offers) (c .loop-number .number) (c .offer-of .result) within (c .loop-number .inv .1) (known, c .offer-of .ensures .bound))
+    let known = of-bid (c .args .kind) (c .args .reading .now .measured) (c .loop-number .number) (c .offer-of .result) _ _ (c .offer-of .ensures .value) read in (
+      length-set (c .loop-number .offers) (c .loop-number .number) (c .offer-of .result) ∙ c .loop-number .inv .0,
+      place-more (λ (s : ℕ) (o : Offer). (o ≡ offerOf (c .args .kind) (c .args .reading .now .measured) s (mapped (λ checked. checked .bid) (getD (c .args .bids .now) s None))) × (inBounds o ≡ true))
+          noOffer (c .loop-number .offers) (c .loop-number .number) (c .offer-of .result) within (c .loop-number .inv .1) (known, c .offer-of .ensures .bound),
+    )
 
 pub returns : need.returns
 returns c =

@@ -27,11 +27,23 @@ pub ghost-result : need.ghost-result
 ghost-result c =
     let p = parts (c .args .reading .now) (sym (c .if-not-is-in-range .ensures tt)) in (
       omega (arith, ints),
-      (omega (arith, ints),
-      (c .kilowatts-if-present .ensures .most,
-      (c .kilowatts-if-present-2 .ensures .most,
-      (c .kilowatts-if-present-3 .ensures .ramp (p .rampUp),
-      (c .kilowatts-if-present-4 .ensures .ramp (p .rampDown),
-      (c .kilowatts-if-present-5 .ensures .most,
-      (p .energy, tt))))))),
+      (
+        omega (arith, ints),
+        (
+          c .kilowatts-if-present .ensures .most,
+          (
+            c .kilowatts-if-present-2 .ensures .most,
+            (
+              c .kilowatts-if-present-3 .ensures .ramp (p .rampUp),
+              (
+                c .kilowatts-if-present-4 .ensures .ramp (p .rampDown),
+                (
+                  c .kilowatts-if-present-5 .ensures .most,
+                  (p .energy, tt),
+                ),
+              ),
+            ),
+          ),
+        ),
+      ),
     )

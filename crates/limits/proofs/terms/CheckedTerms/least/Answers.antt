@@ -11,7 +11,7 @@ pub loop-limit-again : need.loop-limit-again
 loop-limit-again c =
     let within : c .args .service .number < length (c .args .row .now .row .amounts) = omega (arith, c .args .row .now .ten, c .args .service .«one_of_ten») in
     at-service (c .args .self .now .terms) (c .args .row .now .row) (c .args .service .number) within (c .loop-own .own) (c .loop-limit .limit-index) (Availability 0) (c .loop-limit .best) (c .in-Continue-best .best)
-      (c .loop-own-test .taken) (c .loop-limit-test .taken) (c .loop-limit .inv) (c .in-Continue-best .ensures tt .0) (c .in-Continue-best .ensures tt .1)
+    (c .loop-own-test .taken) (c .loop-limit-test .taken) (c .loop-limit .inv) (c .in-Continue-best .ensures tt .0) (c .in-Continue-best .ensures tt .1)
 
 pub returns : need.returns
 returns c =

@@ -5,8 +5,5 @@ use Rattle.limits.specs.Limit.{exceeded, sidesOf}
 use Rattle.limits.specs.Narrowing.{Below, Held, exceededWith, noBest}
 use Rattle.limits.proofs.terms.CheckedTerms.least_of_all.Given as given
 
-abbrev pub Inv-loop-limit : given.InvT-loop-limit
-Inv-loop-limit l = ((s : ℕ) → s < 10 → Held (exceededWith (l .self .terms) (l .row .row) s) (3 * l .own + l .limit-index) (getD (l .best) s noBest)) × Below (λ limit. exceeded (sidesOf (l .self .terms) (l .row .row) limit)) (3 * l .own + l .limit-index)
-
 abbrev pub Inv-loop-own : given.InvT-loop-own
 Inv-loop-own l = ((s : ℕ) → s < 10 → Held (exceededWith (l .self .terms) (l .row .row) s) (3 * l .own) (getD (l .best) s noBest)) × Below (λ limit. exceeded (sidesOf (l .self .terms) (l .row .row) limit)) (3 * l .own)

@@ -19,24 +19,23 @@ known found sides cap a held room c k is e f g h =
 
 pub returns-in-Some-joint : need.returns-in-Some-joint
 returns-in-Some-joint c =
-    let terms = c .args .self .now .terms in
-    let row = c .args .row .now .row in
-    let limit = c .args .limit in
-    let holds : exceeded (sidesOf (c .args .self .now .terms) (c .args .row .now .row) (c .args .limit)) ≡ false = search needs in
-    (holds,
-    two-narrowed (c .args .self .now .terms) (c .args .limit) (sidesOf (c .args .self .now .terms) (c .args .row .now .row) (c .args .limit)) (amount (c .args .row .now .row)) (c .args .best .now)
-      (c .by-own .result) (c .in-Some-joint .other) (c .cap .result) (c .cap-in-Some-joint .result) (c .narrow-place .last .best) (c .narrow-place-in-Some-joint .last .best)
-      (c .by-own .ensures) (sym (c .in-Some-joint .ensures tt))
-      (known _ (c .in-Some .sides) _ _ _ _ _ _ (c .in-Some .ensures tt .value) (c .cap .ensures) (c .amount .ensures .value) (c .room-room .ensures .value) (c .coefficient .ensures))
-      (known _ (c .in-Some .sides) _ _ _ _ _ _ (c .in-Some .ensures tt .value) (c .cap-in-Some-joint .ensures) (c .amount-in-Some-joint .ensures .value) (c .room-room .ensures .value) (c .coefficient-in-Some-joint .ensures))
-      (c .narrow-place .ensures) (c .narrow-place-in-Some-joint .ensures))
+    let holds : exceeded (sidesOf (c .args .self .now .terms) (c .args .row .now .row) (c .args .limit)) ≡ false = search needs in (
+      holds,
+      two-narrowed (c .args .self .now .terms) (c .args .limit) (sidesOf (c .args .self .now .terms) (c .args .row .now .row) (c .args .limit)) (amount (c .args .row .now .row)) (c .args .best .now)
+          (c .by-own .result) (c .in-Some-joint .other) (c .cap .result) (c .cap-in-Some-joint .result) (c .narrow-place .last .best) (c .narrow-place-in-Some-joint .last .best)
+          (c .by-own .ensures) (sym (c .pre .joint) ∙ c .in-Some-joint .is)
+          (known (sidesOf (c .args .self .now .terms) (c .args .row .now .row) (c .args .limit)) (c .in-Some .sides) _ _ _ _ _ _ (sym (c .in-Some .is) ∙ c .pre .sides) (c .cap .ensures) (c .amount .ensures .value) (c .room-room .ensures .value) (c .pre .own ∙ ap (λ (x : ℕ). coefficientOf (c .args .self .now .terms) (c .args .limit) x) (sym (c .by-own .ensures))))
+          (known (sidesOf (c .args .self .now .terms) (c .args .row .now .row) (c .args .limit)) (c .in-Some .sides) _ _ _ _ _ _ (sym (c .in-Some .is) ∙ c .pre .sides) (c .cap-in-Some-joint .ensures) (c .amount-in-Some-joint .ensures .value) (c .room-room .ensures .value) (c .pre .other (c .in-Some-joint .other) (c .in-Some-joint .is)))
+          (c .narrow-place .ensures) (c .narrow-place-in-Some-joint .ensures),
+    )
 
 pub returns-in-rest-joint : need.returns-in-rest-joint
 returns-in-rest-joint c =
-    let holds : exceeded (sidesOf (c .args .self .now .terms) (c .args .row .now .row) (c .args .limit)) ≡ false = search needs in
-    (holds,
-    one-narrowed (c .args .self .now .terms) (c .args .limit) (sidesOf (c .args .self .now .terms) (c .args .row .now .row) (c .args .limit)) (amount (c .args .row .now .row)) (c .args .best .now)
-      (c .by-own .result) (c .cap .result) (c .narrow-place .last .best)
-      (c .by-own .ensures) (sym (c .in-rest-joint .ensures tt))
-      (known _ (c .in-Some .sides) _ _ _ _ _ _ (c .in-Some .ensures tt .value) (c .cap .ensures) (c .amount .ensures .value) (c .room-room .ensures .value) (c .coefficient .ensures))
-      (c .narrow-place .ensures))
+    let holds : exceeded (sidesOf (c .args .self .now .terms) (c .args .row .now .row) (c .args .limit)) ≡ false = search needs in (
+      holds,
+      one-narrowed (c .args .self .now .terms) (c .args .limit) (sidesOf (c .args .self .now .terms) (c .args .row .now .row) (c .args .limit)) (amount (c .args .row .now .row)) (c .args .best .now)
+          (c .by-own .result) (c .cap .result) (c .narrow-place .last .best)
+          (c .by-own .ensures) (sym (c .pre .joint) ∙ c .in-rest-joint .is)
+          (known (sidesOf (c .args .self .now .terms) (c .args .row .now .row) (c .args .limit)) (c .in-Some .sides) _ _ _ _ _ _ (sym (c .in-Some .is) ∙ c .pre .sides) (c .cap .ensures) (c .amount .ensures .value) (c .room-room .ensures .value) (c .pre .own ∙ ap (λ (x : ℕ). coefficientOf (c .args .self .now .terms) (c .args .limit) x) (sym (c .by-own .ensures))))
+          (c .narrow-place .ensures),
+    )
