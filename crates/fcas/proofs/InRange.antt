@@ -4,14 +4,13 @@ use mathlib.Core.Bool.{Bool, true, _&&_}
 use Prim.Native.Nat.{ℕ, _≤_}
 use lib.Dec.{leb}
 use lib.Ieee.{Float}
-use Rattle.std.proofs.shelf.Ways.{tells}
-use native.Mathlib.Omega.{arith}
+use Rattle.std.proofs.shelf.Tests.{and-parts, leb-true}
 use Rattle.std.specs.declared.option.Option.{Option}
 use Rattle.std.specs.declared.option.Option.the-variants.{None, Some}
 use Rattle.fcas.specs.declared.reading.Reading.{Reading}
 use Rattle.fcas.specs.Kilowatts.{zeroMw, mostRampMw, mostMw, leastMw, within, withinIf}
 use Rattle.fcas.specs.Reading.{inRange}
-use Rattle.fcas.proofs.Ranges.{both, ramp-is-power}
+use Rattle.fcas.proofs.Ranges.{ramp-is-power}
 
 pub record Parts (r : Reading) : Type 0 where
   pub initial : within leastMw mostMw (r .initial) ≡ true
@@ -22,19 +21,16 @@ pub record Parts (r : Reading) : Type 0 where
   pub uigf : withinIf zeroMw mostMw (r .uigf) ≡ true
   pub energy : r .«energy_max» ≤ 4000000
 
-at-most : (a b : ℕ) → leb a b ≡ true → a ≤ b
-at-most a b e = grind (arith, tells)
-
 eight : (a b c d e f g h : Bool) → (a && b && c && d && e && f && g && h) ≡ true
     → (a ≡ true) × (b ≡ true) × (c ≡ true) × (d ≡ true) × (e ≡ true) × (f ≡ true) × (g ≡ true) × (h ≡ true)
 eight a b c d e f g h t =
-    let p7 = both (a && b && c && d && e && f && g) h t in
-    let p6 = both (a && b && c && d && e && f) g (p7 .0) in
-    let p5 = both (a && b && c && d && e) f (p6 .0) in
-    let p4 = both (a && b && c && d) e (p5 .0) in
-    let p3 = both (a && b && c) d (p4 .0) in
-    let p2 = both (a && b) c (p3 .0) in
-    let p1 = both a b (p2 .0) in
+    let p7 = and-parts (a && b && c && d && e && f && g) h t in
+    let p6 = and-parts (a && b && c && d && e && f) g (p7 .0) in
+    let p5 = and-parts (a && b && c && d && e) f (p6 .0) in
+    let p4 = and-parts (a && b && c && d) e (p5 .0) in
+    let p3 = and-parts (a && b && c) d (p4 .0) in
+    let p2 = and-parts (a && b) c (p3 .0) in
+    let p1 = and-parts a b (p2 .0) in
     (p1 .0, p1 .1, p2 .1, p3 .1, p4 .1, p5 .1, p6 .1, p7 .1)
 
 pub parts : (r : Reading) → inRange r ≡ true → Parts r
@@ -48,7 +44,7 @@ parts r t =
       rampUp = p .3;
       rampDown = p .4;
       uigf = p .5;
-      energy = at-most (r .«energy_max») 4000000 (p .6);
+      energy = leb-true (r .«energy_max») 4000000 (p .6);
     }
 
 pub ramp-in-range : (x : Option Float) → withinIf zeroMw mostRampMw x ≡ true → withinIf zeroMw mostMw x ≡ true

@@ -12,12 +12,10 @@ use lib.Ieee.{Float, nan, inf, fin, up, down, le, ofBits}
 use lib.Ieee.Fits.{eq→eqb, down-pos, and-i}
 use Rattle.fcas.specs.Kilowatts.{zeroMw, mostRampMw, mostMw, leastMw, within, thousandfold, nearestWhole, kilowattsOf}
 use Rattle.fcas.proofs.Sizes.{Size, between, up-to}
-use Rattle.fcas.proofs.Rounding.{signed, kilowatts-signed, Castable, castable}
+use Rattle.std.proofs.shelf.Tests.{and-from, and-parts}
+use Rattle.fcas.proofs.Rounding.{left-positive, or-l, right-positive, signed, kilowatts-signed, Castable, castable}
 
 -- ---- the test of a range, in its two parts
-pub both : (a b : Bool) → (a && b) ≡ true → (a ≡ true) × (b ≡ true)
-both true b e = (refl, e)
-both false b e = absurd (false≢true e)
 
 holds : (b : Bool) → b ≡ true → T b
 holds b e = subst (λ (x : Bool). T x) (sym e) tt
@@ -27,7 +25,7 @@ is-true true t = refl
 is-true false t = absurd t
 
 parts : (lo hi x : Float) → within lo hi x ≡ true → T (le lo x) × T (le x hi)
-parts lo hi x e = let p = both (le lo x) (le x hi) e in (holds (le lo x) (p .0), holds (le x hi) (p .1))
+parts lo hi x e = let p = and-parts (le lo x) (le x hi) e in (holds (le lo x) (p .0), holds (le x hi) (p .1))
 
 -- ---- what each range says of a float's sign and size
 either-way : (x : Float) → within leastMw mostMw x ≡ true → Size true 4000 x ⊎ Size false 4000 x
@@ -86,9 +84,6 @@ pub unsigned-ramp : (x : Float) → within zeroMw mostRampMw x ≡ true → (q :
 unsigned-ramp x e = unsigned 800 x (lit≤ tt) (ramp x e)
 
 -- ---- the smaller ranges lie in the wider ones
-or-l : (a b : Bool) → T a → T (a || b)
-or-l true b t = tt
-or-l false b t = absurd t
 
 or-r : (a b : Bool) → T b → T (a || b)
 or-r true b t = tt
@@ -99,12 +94,6 @@ le-test a b h = elim (eq-or-lt-of-le h) [ inl p ↦ or-r (ltb a b) (eqb a b && t
 
 ge-test : (a b : ℕ) → b ≤ a → T (ltb b a || (eqb a b && true))
 ge-test a b h = elim (eq-or-lt-of-le h) [ inl p ↦ or-r (ltb b a) (eqb a b && true) (and-i (eqb a b) true (eq→eqb (sym p)) tt) | inr q ↦ or-l (ltb b a) (eqb a b && true) (lt→ltb b a q) ]
-
-left-positive : (a b : ℕ) → 0 < a → 0 < a + b
-left-positive a b h = omega arith
-
-right-positive : (a b : ℕ) → 0 < b → 0 < a + b
-right-positive a b h = omega arith
 
 widen : (a n k d : ℕ) → n ≤ k → a ≤ n * d → a * 1 ≤ k * d
 widen a n k d h g = le-trans (le-of-eq (mul-one a)) (le-trans g (mul-le-mul-right d h))
@@ -123,20 +112,16 @@ high-test s n (inf t) h z = absurd z
 high-test s n (fin true m e) h z = or-l (ltb 0 (m * up e * 1 + 4000 * down e)) _ (lt→ltb 0 (m * up e * 1 + 4000 * down e) (right-positive (m * up e * 1) (4000 * down e) (mul-pos (zero-lt-suc 3999) (down-pos e))))
 high-test s n (fin false m e) h z = le-test (m * up e * 1) (4000 * down e) (widen (m * up e) n 4000 (down e) h (z .1))
 
-and-true : (a b : Bool) → a ≡ true → b ≡ true → (a && b) ≡ true
-and-true true b p q = q
-and-true false b p q = absurd (false≢true p)
-
 pub power-in-widest : (x : Float) → within zeroMw mostMw x ≡ true → within leastMw mostMw x ≡ true
 power-in-widest x e = go (power x e)
   where
     go : Size true 0 x ⊎ Size false 4000 x → within leastMw mostMw x ≡ true
-    go (inl z) = and-true (le leastMw x) (le x mostMw) (is-true _ (low-test true 0 x zero-le z)) (both (le zeroMw x) (le x mostMw) e .1)
-    go (inr z) = and-true (le leastMw x) (le x mostMw) (is-true _ (low-test false 4000 x (lit≤ tt) z)) (both (le zeroMw x) (le x mostMw) e .1)
+    go (inl z) = and-from (le leastMw x) (le x mostMw) (is-true _ (low-test true 0 x zero-le z)) (and-parts (le zeroMw x) (le x mostMw) e .1)
+    go (inr z) = and-from (le leastMw x) (le x mostMw) (is-true _ (low-test false 4000 x (lit≤ tt) z)) (and-parts (le zeroMw x) (le x mostMw) e .1)
 
 pub ramp-is-power : (x : Float) → within zeroMw mostRampMw x ≡ true → within zeroMw mostMw x ≡ true
 ramp-is-power x e = go (ramp x e)
   where
     go : Size true 0 x ⊎ Size false 800 x → within zeroMw mostMw x ≡ true
-    go (inl z) = and-true (le zeroMw x) (le x mostMw) (both (le zeroMw x) (le x mostRampMw) e .0) (is-true _ (high-test true 0 x zero-le z))
-    go (inr z) = and-true (le zeroMw x) (le x mostMw) (both (le zeroMw x) (le x mostRampMw) e .0) (is-true _ (high-test false 800 x (lit≤ tt) z))
+    go (inl z) = and-from (le zeroMw x) (le x mostMw) (and-parts (le zeroMw x) (le x mostRampMw) e .0) (is-true _ (high-test true 0 x zero-le z))
+    go (inr z) = and-from (le zeroMw x) (le x mostMw) (and-parts (le zeroMw x) (le x mostRampMw) e .0) (is-true _ (high-test false 800 x (lit≤ tt) z))

@@ -90,14 +90,14 @@ kilowatts-signed s n x N h =
     (w .number, w .most, ap (toSigned 63) (w .is) ∙ cast s (w .number) (le-trans (w .most) N))
 
 -- ---- which loses nothing: the number lies inside the range of 64 bits
-or-l : (a b : Bool) → T a → T (a || b)
+pub or-l : (a b : Bool) → T a → T (a || b)
 or-l true b t = tt
 or-l false b t = absurd t
 
-left-positive : (a b : ℕ) → 0 < a → 0 < a + b
+pub left-positive : (a b : ℕ) → 0 < a → 0 < a + b
 left-positive a b h = omega arith
 
-right-positive : (a b : ℕ) → 0 < b → 0 < a + b
+pub right-positive : (a b : ℕ) → 0 < b → 0 < a + b
 right-positive a b h = omega arith
 
 above-least : (s : Bool) (q : ℕ) (y : Float) → q ≤ 2 ^ 53 → HasValue y s q 1 → T (le (fin true 1 (pos 63)) y)

@@ -39,7 +39,8 @@ fn is_above(limit: u32, number: u32) -> bool
 
 // Whether some number is above the limit.
 pub fn some_above(limit: u32, numbers: &[u32]) -> bool
-    ensures { λ r. ⌜ r ≡ someAbove limit (now (numbers .entry)) ⌝ }
+    ensures value { λ r. ⌜ r ≡ someAbove limit (now (numbers .entry)) ⌝ }
+    ensures kept { λ _. ⌜ now (numbers .exit) ≡ now (numbers .entry) ⌝ }
 {
     for number in numbers {
         if is_above(limit, *number) {

@@ -46,14 +46,14 @@ offerAt terms service = getD (terms .offers) service noOffer
 abbrev pub whileLive : {X : Type 0} → Offer → Option X → Option X
 whileLive offer limit = cond (offer .live) limit None
 
--- M x energy + u x amount <= M x X
+-- The sides of an upper limit. With M the bid's maximum availability, u the run of its upper slope and X the effective enablement maximum: M energy + u amount <= M X.
 abbrev pub upperSides : Offer → ℤ → ℕ → Sides
 upperSides offer energy a = record {
   lesser = pos (offer .«bid_availability») *ℤ energy +ℤ pos (offer .«upper_run») *ℤ pos a;
   greater = pos (offer .«bid_availability») *ℤ pos (offer .«enablement_max»);
 }
 
--- M x N <= M x energy - l x amount
+-- The sides of a lower limit. With l the run of the lower slope and N the effective enablement minimum: M N <= M energy - l amount.
 abbrev pub lowerSides : Offer → ℤ → ℕ → Sides
 lowerSides offer energy a = record {
   lesser = pos (offer .«bid_availability») *ℤ pos (offer .«enablement_min»);

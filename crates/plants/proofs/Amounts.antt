@@ -19,7 +19,7 @@ lowered-le (x ∷ xs) zero a (suc i) l = omega arith
 lowered-le (x ∷ xs) (suc s) a zero l = omega arith
 lowered-le (x ∷ xs) (suc s) a (suc i) l = lowered-le xs s a i l
 
-abbrev of-amounts : Row → List ℕ → Row
+abbrev pub of-amounts : Row → List ℕ → Row
 of-amounts row xs = record { unit = row .unit; kind = row .kind; energy = row .energy; amounts = xs }
 
 -- where an allowed row with one amount lowered is allowed, less of a service is allowed where more is

@@ -15,7 +15,7 @@ use Rattle.limits.specs.Row.{amount, withAmount}
 use Rattle.limits.specs.declared.row.Row.{Row}
 use Rattle.plants.specs.GovernorShare.{lowers, raises, shareAllows}
 use Rattle.plants.specs.declared.governor_share.GovernorShare.{GovernorShare}
-use Rattle.plants.proofs.Amounts.{lowered-le}
+use Rattle.plants.proofs.Amounts.{lowered-le, of-amounts}
 
 pub share-lowering : (plant : GovernorShare) (row : Row) (s a : ℕ) → a ≤ amount row s → shareAllows plant row ≡ true → shareAllows plant (withAmount row s a) ≡ true
 share-lowering plant row s a l h =
@@ -47,9 +47,6 @@ under-five P a b c d e (suc (suc zero)) l = c
 under-five P a b c d e (suc (suc (suc zero))) l = d
 under-five P a b c d e (suc (suc (suc (suc zero)))) l = e
 under-five P a b c d e (suc (suc (suc (suc (suc s))))) l = absurd (omega arith)
-
-abbrev of-amounts : Row → List ℕ → Row
-of-amounts row xs = record { unit = row .unit; kind = row .kind; energy = row .energy; amounts = xs }
 
 -- a raise amount moves the sum of raises alone, and a lower amount that of lowers
 abbrev Raised : Row → ℕ → ℕ → Type 0
