@@ -1,6 +1,7 @@
 // A bid for one service: a trapezium and ten price bands.
 ghost use Prim.Native.Nat.{_≤_};
 ghost use lib.Dec.{ltb};
+ghost use mathlib.Core.Bool.{false};
 ghost use mathlib.Core.Path.{_≡_};
 ghost use Rattle.fcas.specs.Bid.{bidFaults, falls as numbers-fall, numbersOf, someAbove};
 ghost use Rattle.fcas.specs.Checks.{Checked};
@@ -29,6 +30,7 @@ pub struct CheckedBid {
     ghost rises_to_max: { bid .«high_breakpoint» ≤ bid .«enablement_max» },
     ghost max_in_range: { bid .«enablement_max» ≤ 4000000 },
     ghost availability_in_range: { bid .«max_availability» ≤ 4000000 },
+    ghost bands_in_range: { someAbove 4000000 (bid .bands) ≡ false },
 }
 
 fn is_above(limit: u32, number: u32) -> bool

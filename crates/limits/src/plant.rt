@@ -15,9 +15,13 @@ pub trait PlantLimit {
     law lowering: { (plant : Self) (row : Row) (service a : ℕ) → a ≤ amount row service → allowed plant row ≡ true → allowed plant (withAmount row service a) ≡ true };
 
     fn allows(&self, row: &Row) -> bool
-        ensures { λ r. ⌜ r ≡ allowed (now (self .entry)) (now (row .entry)) ⌝ };
+        ensures value { λ r. ⌜ r ≡ allowed (now (self .entry)) (now (row .entry)) ⌝ }
+        ensures plant_kept { λ _. ⌜ now (self .exit) ≡ now (self .entry) ⌝ }
+        ensures row_kept { λ _. ⌜ now (row .exit) ≡ now (row .entry) ⌝ };
 
     // The greatest amount of a service with which the row is allowed.
     fn most(&self, row: &Row, service: u8) -> Option<u32>
-        ensures { λ r. ⌜ Greatest (λ a. allowed (now (self .entry)) (withAmount (now (row .entry)) service a)) service r ⌝ };
+        ensures value { λ r. ⌜ Greatest (λ a. allowed (now (self .entry)) (withAmount (now (row .entry)) service a)) service r ⌝ }
+        ensures plant_kept { λ _. ⌜ now (self .exit) ≡ now (self .entry) ⌝ }
+        ensures row_kept { λ _. ⌜ now (row .exit) ≡ now (row .entry) ⌝ };
 }

@@ -32,7 +32,7 @@ pub struct Terms {
     pub offers: [Offer; 10],
 }
 
-// Terms that were made from a checked reading and checked bids.
+// Terms whose numbers are in the range that a checked reading and checked bids give them.
 #[derive(Clone, Copy)]
 pub struct CheckedTerms {
     pub terms: Terms,

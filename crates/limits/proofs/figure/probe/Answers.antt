@@ -36,7 +36,7 @@ pub returns-in-Break-most : need.returns-in-Break-most
 returns-in-Break-most g c = rw (c .from-residual-in-Break-most .ensures) (record {
   value = λ live none. not-allowed (g .P·PlantLimit .allowed (c .args .plant .now)) (c .args .terms .now .terms) (withAmount (c .args .row .now .row) (c .args .service .number) 0)
       (subst (λ (r : Row). g .P·PlantLimit .allowed (c .args .plant .now) r ≡ false) (back (g .P·PlantLimit .allowed (c .args .plant .now)) (c .args .terms .now .terms) (c .args .row .now .row) (c .without-without .result .row) (c .args .service .number) (c .without-without .ensures) 0)
-      (c .in-Break-most .ensures tt (omega (arith, c .args .service .«one_of_ten»)))) none;
+      (c .in-Break-most .ensures tt .value (omega (arith, c .args .service .«one_of_ten»)))) none;
   terms-kept = refl;
   row-kept = refl;
   plant-kept = refl;
@@ -50,9 +50,9 @@ returns g c =
     let small : c .in-Continue-best .best .most ≤ 4000000 = omega (arith, bound, powers-at (c .args .terms .now .terms .offers) (c .args .service .number) (c .args .terms .now .«offers_in_range») .effective) in
     let again = same (g .P·PlantLimit .allowed (c .args .plant .now)) (c .args .terms .now .terms) (c .args .row .now .row) (c .without-without .result .row) (c .args .service .number) (c .without-without .ensures) in
     let greatest = settled (g .P·PlantLimit .allowed (c .args .plant .now)) (c .args .terms .now .terms) (c .without-without .result .row) (c .args .service .number) within (c .args .terms .now .ten)
-    (λ r a. g .P·PlantLimit·met .lowering (c .args .plant .now) r (c .args .service .number) a) (c .in-Continue-best .best) small (c .in-Continue-best .ensures tt) (c .in-Continue-most .most) (c .in-Continue-most .ensures tt .1) in
+    (λ r a. g .P·PlantLimit·met .lowering (c .args .plant .now) r (c .args .service .number) a) (c .in-Continue-best .best) small (c .in-Continue-best .ensures tt) (c .in-Continue-most .most) (c .in-Continue-most .ensures tt .value .1) in
     let none = borne-at (g .P·PlantLimit .allowed (c .args .plant .now)) (c .args .terms .now .terms) (c .without-without .result .row) (c .args .service .number) within (c .args .terms .now .ten)
-    (λ r a. g .P·PlantLimit·met .lowering (c .args .plant .now) r (c .args .service .number) a) (c .in-Continue-best .best) small (c .in-Continue-best .ensures tt) (c .in-Continue-most .most) (c .in-Continue-most .ensures tt .1) 0 zero-le zero-le in
+    (λ r a. g .P·PlantLimit·met .lowering (c .args .plant .now) r (c .args .service .number) a) (c .in-Continue-best .best) small (c .in-Continue-best .ensures tt) (c .in-Continue-most .most) (c .in-Continue-most .ensures tt .value .1) 0 zero-le zero-le in
     record {
       value = (live, subst (λ (b : Limit → Bool). Borne b) (again 0) none, live-figure _ _ _ _ (c .live .result) (c .narrowed .ensures) (greatest-same _ _ again _ _ greatest) (c .live .ensures .figure) (c .live .ensures .ground) (c .live .ensures .by));
       terms-kept = refl;

@@ -19,5 +19,5 @@ returns g c =
     let bound = live-bound (g .P·PlantLimit .allowed (c .args .plant .now)) (c .args .terms .now .terms) (c .args .row .now .row) (c .args .service .number) within (c .args .terms .now .ten) 32 (c .args .best) (c .args .service .«one_of_ten») (omega arith) live (c .pre .held) in
     let small : c .args .best .most ≤ 4000000 = omega (arith, bound, powers-at (c .args .terms .now .terms .offers) (c .args .service .number) (c .args .terms .now .«offers_in_range») .effective) in
     let greatest = settled (g .P·PlantLimit .allowed (c .args .plant .now)) (c .args .terms .now .terms) (c .args .row .now .row) (c .args .service .number) within (c .args .terms .now .ten)
-    (λ r a. g .P·PlantLimit·met .lowering (c .args .plant .now) r (c .args .service .number) a) (c .args .best) small (c .pre .held) (c .in-Some .most) (c .in-Some .ensures tt .1) in
+    (λ r a. g .P·PlantLimit·met .lowering (c .args .plant .now) r (c .args .service .number) a) (c .args .best) small (c .pre .held) (c .in-Some .most) (c .in-Some .ensures tt .value .1) in
     when-live _ _ _ live (live-figure _ _ _ _ (c .live .result) (c .narrowed .ensures) greatest (c .live .ensures .figure) (c .live .ensures .ground) (c .live .ensures .by))

@@ -1,6 +1,6 @@
 use borrow.Author.Needs.{needs}
 use mathlib.Core.Bool.{Bool}
-use mathlib.Core.Path.{_≡_, sym, ap, _∙_}
+use mathlib.Core.Path.{_≡_, refl, sym, ap, _∙_}
 use Prim.Native.Nat.{ℕ, _<_}
 use native.Mathlib.Omega.{arith}
 use lib.IntN.{ℤ, pos}
@@ -23,12 +23,20 @@ pub returns-then-adds : need.returns-then-adds
 returns-then-adds c =
     let ten : length (c .args .row .now .amounts) ≡ 10 = search needs in
     let within : c .args .service < length (c .args .row .now .amounts) = omega arith in
-    known (λ a. a) _ (c .args .service) (c .greatest .result) (c .room .result) _ (record { sfits = c .room .ok }) (c .room .ensures)
-    (room-adds (c .args .self .now) (c .args .row .now) (c .args .service) within (sym (c .if-adds .ensures tt))) (c .greatest .ensures)
+    record {
+      value = known (λ a. a) _ (c .args .service) (c .greatest .result) (c .room .result) _ (record { sfits = c .room .ok }) (c .room .ensures)
+          (room-adds (c .args .self .now) (c .args .row .now) (c .args .service) within (sym (c .if-adds .ensures tt))) (c .greatest .ensures);
+      plant-kept = refl;
+      row-kept = refl;
+    }
 
 pub returns-else-adds : need.returns-else-adds
 returns-else-adds c =
     let ten : length (c .args .row .now .amounts) ≡ 10 = search needs in
     let within : c .args .service < length (c .args .row .now .amounts) = omega arith in
-    known (λ _. 0) _ (c .args .service) (c .greatest-else-adds .result) (c .room-else-adds .result) _ (record { sfits = c .room-else-adds .ok }) (c .room-else-adds .ensures)
-    (room-else (c .args .self .now) (c .args .row .now) (c .args .service) within (sym (c .if-adds .ensures tt))) (c .greatest-else-adds .ensures)
+    record {
+      value = known (λ _. 0) _ (c .args .service) (c .greatest-else-adds .result) (c .room-else-adds .result) _ (record { sfits = c .room-else-adds .ok }) (c .room-else-adds .ensures)
+          (room-else (c .args .self .now) (c .args .row .now) (c .args .service) within (sym (c .if-adds .ensures tt))) (c .greatest-else-adds .ensures);
+      plant-kept = refl;
+      row-kept = refl;
+    }
