@@ -1,4 +1,6 @@
 // The worked cases of the rules, proved from the definitions and run through the code.
+#![tactic(auto)]
+
 ghost use Rattle.std.specs.Prelude.{◌≡◌, None, Ok};
 ghost use Rattle.cases.specs.Worked.{Worked, generator, lower_bid, lower_trapezium, raise_bid, raise_trapezium};
 ghost use Rattle.fcas.specs.Bid.{bid_faults};

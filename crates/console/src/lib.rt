@@ -1,4 +1,6 @@
 // Sessions over lines of text: a station that is called line by line, and the survey of one unit.
+#![tactic(auto)]
+
 mod answers;
 mod calls;
 mod fault;

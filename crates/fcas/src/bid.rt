@@ -40,7 +40,7 @@ fn is_above(limit: u32, number: u32) -> bool
 // Whether some number is above the limit.
 pub fn some_above(limit: u32, numbers: &[u32]) -> bool
     ensures value { result ≡ some_above limit numbers.now }
-    ensures kept { numbers.now ≡ numbers.now }
+    ensures kept { numbers.exit.now ≡ numbers.entry.now }
 {
     for number in numbers {
         if is_above(limit, *number) {

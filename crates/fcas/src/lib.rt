@@ -1,4 +1,6 @@
 // The market's rules for one unit as an interval opens: what is handed over is checked, a bid's trapezium is scaled by the unit's readings, and each service is found live or not.
+#![tactic(auto)]
+
 mod bid;
 mod kilowatts;
 mod kind;

@@ -2,7 +2,7 @@
 ghost use Rattle.std.specs.Prelude.{◌≡◌, ◌≤◌};
 ghost use Rattle.fcas.specs.Checks.{first_of};
 ghost use Rattle.fcas.specs.Live.{energy_available, ground_number, ground_of, grounds_against, is_off, not_below_zero};
-ghost use Rattle.std.specs.Option.{option_map};
+ghost use Rattle.std.specs.Option.{option_copied, option_map};
 
 use crate::bid::{CheckedBid, some_above};
 use crate::kind::Kind;
@@ -95,9 +95,9 @@ impl Ground {
         bid: Option<&CheckedBid>,
         reading: &CheckedReading,
     ) -> Option<Ground>
-        ensures value { option_map ground_number result ≡ ground_of kind service.number (option_map (λ held. ((λ x. x.now) {X = CheckedBid} held).bid) bid.entry) reading.now.measured }
-        ensures bid_kept { option_map ((λ x. x.now) {X = CheckedBid}) bid.exit ≡ option_map (λ x. x.now) bid.entry }
-        ensures reading_kept { reading.now ≡ reading.now }
+        ensures value { option_map ground_number result ≡ ground_of kind service.number (option_map (λ held. held.bid) (option_copied bid.entry)) reading.now.measured }
+        ensures bid_kept { option_copied bid.exit ≡ option_copied bid.entry }
+        ensures reading_kept { reading.exit.now ≡ reading.entry.now }
     {
         match bid {
             Some(bid) => Ground::against_bid(kind, service, bid, reading),

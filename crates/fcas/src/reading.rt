@@ -88,7 +88,7 @@ impl Reading {
 impl CheckedReading {
     pub fn new(reading: &Reading) -> Result<CheckedReading, Refusal>
         ensures value { Checked (reading_faults reading.now) (λ checked. checked.measured ≡ measured_of reading.now) result }
-        ensures kept { reading.now ≡ reading.now }
+        ensures kept { reading.exit.now ≡ reading.entry.now }
     {
         if !reading.is_in_range() {
             return Err(Refusal::ReadingOutOfRange);
@@ -109,7 +109,7 @@ impl CheckedReading {
     // A unit of the kind can be opened by this reading: a semi-scheduled one needs its forecast.
     pub fn check_forecast(&self, kind: Kind) -> Result<(), Refusal>
         ensures value { Checked (forecast_faults kind self.now.measured) (λ _. Unit {0}) result }
-        ensures kept { self.now ≡ self.now }
+        ensures kept { self.exit.now ≡ self.entry.now }
     {
         match (kind, self.measured.uigf) {
             (Kind::SemiScheduled, None) => Err(Refusal::ForecastMissing),

@@ -140,8 +140,8 @@ impl Envelope {
         ensures min { result.enablement_min ≡ effective_enablement_min service.number bid.now.bid reading.now.measured }
         ensures max { result.enablement_max ≡ effective_enablement_max kind service.number bid.now.bid reading.now.measured }
         ensures availability { result.max_availability ≡ effective_max_availability kind service.number bid.now.bid reading.now.measured }
-        ensures bid_kept { bid.now ≡ bid.now }
-        ensures reading_kept { reading.now ≡ reading.now }
+        ensures bid_kept { bid.exit.now ≡ bid.entry.now }
+        ensures reading_kept { reading.exit.now ≡ reading.entry.now }
     {
         let offered = Envelope {
             enablement_min: bid.bid.enablement_min,
@@ -224,8 +224,8 @@ impl Trapezium {
         reading: &CheckedReading,
     ) -> Trapezium
         ensures value { result ≡ trapezium_of kind service.number bid.now.bid reading.now.measured }
-        ensures bid_kept { bid.now ≡ bid.now }
-        ensures reading_kept { reading.now ≡ reading.now }
+        ensures bid_kept { bid.exit.now ≡ bid.entry.now }
+        ensures reading_kept { reading.exit.now ≡ reading.entry.now }
     {
         let envelope = Envelope::new(kind, service, bid, reading);
         Trapezium {

@@ -1,4 +1,6 @@
 // The headroom station's program.
+#![tactic(auto)]
+
 #[cfg(test)]
 mod line_tests;
 #[cfg(test)]

@@ -1,4 +1,6 @@
 // A small host that calls a station directly: it opens an interval of one unit, and spends the pass on every way out.
+#![tactic(auto)]
+
 use fcas::{Bid, Reading};
 use limits::Figure;
 use plants::Bare;

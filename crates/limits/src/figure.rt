@@ -53,9 +53,9 @@ pub fn probe<P: PlantLimit>(
     service: Service,
 ) -> Option<Figure>
     ensures value { Probed (P.PlantLimit.allowed plant.now) terms.now.terms row.now.row service.number result }
-    ensures terms_kept { terms.now ≡ terms.now }
-    ensures row_kept { row.now ≡ row.now }
-    ensures plant_kept { plant.now ≡ plant.now }
+    ensures terms_kept { terms.exit.now ≡ terms.entry.now }
+    ensures row_kept { row.exit.now ≡ row.entry.now }
+    ensures plant_kept { plant.exit.now ≡ plant.entry.now }
 {
     if !terms.offer(service.number).live {
         return None;
@@ -94,9 +94,9 @@ pub fn figures<P: PlantLimit>(
     plant: &P,
 ) -> Option<[Figure; 10]>
     ensures value { AllFigures (P.PlantLimit.allowed plant.now) terms.now.terms row.now.row result }
-    ensures terms_kept { terms.now ≡ terms.now }
-    ensures row_kept { row.now ≡ row.now }
-    ensures plant_kept { plant.now ≡ plant.now }
+    ensures terms_kept { terms.exit.now ≡ terms.entry.now }
+    ensures row_kept { row.exit.now ≡ row.entry.now }
+    ensures plant_kept { plant.exit.now ≡ plant.entry.now }
 {
     let best = terms.least_of_all(row)?;
     if !is_allowed(plant, row) {

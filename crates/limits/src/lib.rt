@@ -1,4 +1,6 @@
 // The limits of one row of energy and amounts: what breaks, and how much more of a service the row bears.
+#![tactic(auto)]
+
 mod figure;
 mod limit;
 mod narrowing;

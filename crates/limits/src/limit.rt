@@ -244,8 +244,8 @@ impl CheckedTerms {
     pub fn sides(&self, row: &CheckedRow, limit: Limit) -> Option<Sides>
         ensures value { result ≡ sides_of self.now.terms row.now.row limit }
         ensures bound { BoundedIf result }
-        ensures terms_kept { self.now ≡ self.now }
-        ensures row_kept { row.now ≡ row.now }
+        ensures terms_kept { self.exit.now ≡ self.entry.now }
+        ensures row_kept { row.exit.now ≡ row.entry.now }
     {
         match limit {
             Limit::Availability(service) => self.availability_sides(row, service),
@@ -328,9 +328,9 @@ pub fn first_broken<P: PlantLimit>(
     plant: &P,
 ) -> Option<Limit>
     ensures value { Finds (breaks (P.PlantLimit.allowed plant.now) terms.now.terms row.now.row) result }
-    ensures terms_kept { terms.now ≡ terms.now }
-    ensures row_kept { row.now ≡ row.now }
-    ensures plant_kept { plant.now ≡ plant.now }
+    ensures terms_kept { terms.exit.now ≡ terms.entry.now }
+    ensures row_kept { row.exit.now ≡ row.entry.now }
+    ensures plant_kept { plant.exit.now ≡ plant.entry.now }
 {
     let rise_breaks = terms.exceeds(row, Limit::RampUp);
     let fall_breaks = terms.exceeds(row, Limit::RampDown);

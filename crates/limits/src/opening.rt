@@ -84,8 +84,8 @@ impl CheckedTerms {
         reading: &CheckedReading,
     ) -> CheckedTerms
         ensures value { result.terms ≡ terms_of kind (held_bids bids.now) reading.now.measured }
-        ensures bids_kept { bids.now ≡ bids.now }
-        ensures reading_kept { reading.now ≡ reading.now }
+        ensures bids_kept { bids.exit.now ≡ bids.entry.now }
+        ensures reading_kept { reading.exit.now ≡ reading.entry.now }
     {
         let terms = Terms {
             kind,

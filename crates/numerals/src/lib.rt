@@ -1,4 +1,6 @@
 // Whole numbers as text: what digits spell, and the digits of a number.
+#![tactic(auto)]
+
 mod reading;
 mod writing;
 

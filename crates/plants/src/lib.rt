@@ -1,4 +1,6 @@
 // The four plant limits.
+#![tactic(auto)]
+
 mod bare;
 mod both;
 mod choice;

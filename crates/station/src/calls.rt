@@ -138,7 +138,7 @@ impl<P: PlantLimit> Station<P> {
 
     pub fn energy(&mut self, pass: &Pass, energy: u32) -> Result<(), Refusal>
         ensures turn { Turn P.PlantLimit.allowed self.old (Energy pass.now.numbers energy) (done result) self.new }
-        ensures pass_kept { pass.now ≡ pass.now }
+        ensures pass_kept { pass.exit.now ≡ pass.entry.now }
     {
         check_power(energy)?;
         let unit = find(self.number, &self.rows, pass)?;
@@ -148,7 +148,7 @@ impl<P: PlantLimit> Station<P> {
 
     pub fn amount(&mut self, pass: &Pass, service: u32, amount: u32) -> Result<(), Refusal>
         ensures turn { Turn P.PlantLimit.allowed self.old (Amount pass.now.numbers service amount) (done result) self.new }
-        ensures pass_kept { pass.now ≡ pass.now }
+        ensures pass_kept { pass.exit.now ≡ pass.entry.now }
     {
         let service = Service::from_number(service)?;
         check_power(amount)?;
@@ -160,8 +160,8 @@ impl<P: PlantLimit> Station<P> {
     // The figure of a service at the energy that is held, live or not.
     pub fn figure(&self, pass: &Pass, service: u32) -> Result<Figure, Refusal>
         ensures turn { Turn P.PlantLimit.allowed self.now (Figures pass.now.numbers service) (figured result) self.now }
-        ensures station_kept { self.now ≡ self.now }
-        ensures pass_kept { pass.now ≡ pass.now }
+        ensures station_kept { self.exit.now ≡ self.entry.now }
+        ensures pass_kept { pass.exit.now ≡ pass.entry.now }
     {
         let service = Service::from_number(service)?;
         let unit = find(self.number, &self.rows, pass)?;
@@ -172,8 +172,8 @@ impl<P: PlantLimit> Station<P> {
     // The figure of a live service at another energy.
     pub fn probe(&self, pass: &Pass, service: u32, energy: u32) -> Result<Option<Figure>, Refusal>
         ensures turn { Turn P.PlantLimit.allowed self.now (Probe pass.now.numbers service energy) (probed_by result) self.now }
-        ensures station_kept { self.now ≡ self.now }
-        ensures pass_kept { pass.now ≡ pass.now }
+        ensures station_kept { self.exit.now ≡ self.entry.now }
+        ensures pass_kept { pass.exit.now ≡ pass.entry.now }
     {
         let service = Service::from_number(service)?;
         check_power(energy)?;
@@ -184,8 +184,8 @@ impl<P: PlantLimit> Station<P> {
     // The five effective numbers of a service.
     pub fn trapezium(&self, pass: &Pass, service: u32) -> Result<Option<Trapezium>, Refusal>
         ensures turn { Turn P.PlantLimit.allowed self.now (Scales pass.now.numbers service) (scaled result) self.now }
-        ensures station_kept { self.now ≡ self.now }
-        ensures pass_kept { pass.now ≡ pass.now }
+        ensures station_kept { self.exit.now ≡ self.entry.now }
+        ensures pass_kept { pass.exit.now ≡ pass.entry.now }
     {
         let service = Service::from_number(service)?;
         let unit = find(self.number, &self.rows, pass)?;

@@ -1,4 +1,6 @@
 // The headroom station: up to 24 units, a row for each, the thirteen calls on them, and the law over every run of calls.
+#![tactic(auto)]
+
 mod call;
 mod calls;
 mod lent;

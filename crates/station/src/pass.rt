@@ -26,7 +26,7 @@ impl Pass {
     // The numbers, for a host that writes them down.
     pub fn numbers(&self) -> PassNumbers
         ensures value { result ≡ self.now.numbers }
-        ensures kept { self.now ≡ self.now }
+        ensures kept { self.exit.now ≡ self.entry.now }
     {
         self.numbers
     }

@@ -203,7 +203,7 @@ impl<P: PlantLimit> Station<P> {
     pub fn apply(&mut self, call: &Call) -> Answer
         ensures turn { Turn P.PlantLimit.allowed self.old call.now result self.new }
         ensures law { Follows P.PlantLimit.allowed self.old call.now result self.new }
-        ensures call_kept { call.now ≡ call.now }
+        ensures call_kept { call.exit.now ≡ call.entry.now }
     {
         self.answer(call)
     }
@@ -211,7 +211,7 @@ impl<P: PlantLimit> Station<P> {
     // The law for hosts that make the calls one by one: whatever chain of calls led to this station, it is sound. Nothing is done.
     pub fn lawful(&self)
         ensures law { Lawful P.PlantLimit.allowed self.now }
-        ensures kept { self.now ≡ self.now }
+        ensures kept { self.exit.now ≡ self.entry.now }
     {}
 }
 
@@ -232,7 +232,7 @@ impl<P: PlantLimit + Drop> Station<P> {
         heap: Global,
     ) -> Result<Run<P>, AllocError>
         ensures law { IfOk result (λ run. (length run.answers.items ≡ length calls.now) × Sound P.PlantLimit.allowed number first plant (upon [] calls.now run.answers.items) run.station) }
-        ensures calls_kept { calls.now ≡ calls.now }
+        ensures calls_kept { calls.exit.now ≡ calls.entry.now }
     {
         let mut station = Station::new(number, first, plant);
         let mut answers = Vec::with_capacity(heap, calls.len())?;

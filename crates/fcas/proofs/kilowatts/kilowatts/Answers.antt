@@ -15,25 +15,25 @@ fitting z k e lo hi = omega (arith, ints)
 whole : (w t x : Float) → w ≡ nearest_whole t → t ≡ thousandfold x → w ≡ nearest_whole (thousandfold x)
 whole w t x e f = e ∙ ap nearest_whole f
 
-pub truncating-f64-to-i64-requires : goal.truncating-f64-to-i64-requires
-truncating-f64-to-i64-requires c =
+pub truncating_f64_to_i64-requires : goal.truncating_f64_to_i64-requires
+truncating_f64_to_i64-requires c =
     let k = kilowatts_castable c.args.megawatts c.requires in
     record {
-      lower-bound = subst (λ (y : Float). T (le (fin true 1 (pos 63)) y)) (sym (whole _ _ _ c.nearest_whole_lem.ensures c.thousandfold.ensures)) k.0;
-      upper-bound = subst (λ (y : Float). T (lt y (fin false 1 (pos 63)))) (sym (whole _ _ _ c.nearest_whole_lem.ensures c.thousandfold.ensures)) k.1;
+      lower_bound = subst (λ (y : Float). T (le (fin true 1 (pos 63)) y)) (sym (whole _ _ _ c.nearest_whole.ensures c.thousandfold.ensures)) k.0;
+      upper_bound = subst (λ (y : Float). T (lt y (fin false 1 (pos 63)))) (sym (whole _ _ _ c.nearest_whole.ensures c.thousandfold.ensures)) k.1;
     }
 
-pub overflow-cast-result : goal.overflow-cast-result
+pub overflow_cast-result : goal.overflow_cast-result
 unfolding kilowatts_of
-overflow-cast-result c =
+overflow_cast-result c =
     let b = kilowatts_bounded c.args.megawatts c.requires in
-    fitting c.truncating-f64-to-i64.result (kilowatts_of c.args.megawatts) (c.truncating-f64-to-i64.ensures ∙ ap (to_signed 63) (whole _ _ _ c.nearest_whole_lem.ensures c.thousandfold.ensures)) b.0 b.1
+    fitting c.truncating_f64_to_i64.result (kilowatts_of c.args.megawatts) (c.truncating_f64_to_i64.ensures ∙ ap (to_signed 63) (whole _ _ _ c.nearest_whole.ensures c.thousandfold.ensures)) b.0 b.1
 
 pub returns : goal.returns
 unfolding kilowatts_of
 returns c =
     let b = kilowatts_bounded c.args.megawatts c.requires in
-    let e = settled c.truncating-f64-to-i64.result (kilowatts_of c.args.megawatts) (c.truncating-f64-to-i64.ensures ∙ ap (to_signed 63) (whole _ _ _ c.nearest_whole_lem.ensures c.thousandfold.ensures)) b.0 b.1 in
+    let e = settled c.truncating_f64_to_i64.result (kilowatts_of c.args.megawatts) (c.truncating_f64_to_i64.ensures ∙ ap (to_signed 63) (whole _ _ _ c.nearest_whole.ensures c.thousandfold.ensures)) b.0 b.1 in
     record {
       value = e;
       low = subst (λ (z : ℤ). negsuc 3999999 ≤ℤ z) (sym e) b.0;

@@ -13,8 +13,8 @@ fits q h = search rules
 pub kilowatts-requires : goal.kilowatts-requires
 kilowatts-requires c = power_in_widest c.args.megawatts c.requires
 
-pub overflow-cast-result : goal.overflow-cast-result
-overflow-cast-result c =
+pub overflow_cast-result : goal.overflow_cast-result
+overflow_cast-result c =
     let p = unsigned_power c.args.megawatts c.requires in
     let e = settled c.kilowatts.result p.0 (c.kilowatts.ensures.value ∙ p.2) p.1 in
     subst (λ (z : ℤ). T (non_neg z) × Fits w32 (nat_abs z)) (sym e) (tt, fits p.0 p.1)

@@ -8,10 +8,10 @@ use Rattle.limits.proofs.limit.first_broken.Goals as goal
 pub returns : goal.returns
 returns g c = record {
   value = subst (λ (o : Option Limit). Finds (breaks (g.P.PlantLimit.allowed c.args.plant.now) c.args.terms.now.terms c.args.row.now.row) o)
-      (sym (c.earlier.ensures ∙ ap (earlier_of c.first-of-services.result) c.first_of_row_lem.ensures))
-      (first-of-all c.args.terms.now.terms c.args.row.now.row c.args.terms.now.ten (g.P.PlantLimit.allowed c.args.plant.now) c.first-of-services.result _ _ _
-      c.first-of-services.ensures c.exceeds-rise-breaks.ensures c.exceeds-fall-breaks.ensures c.is-allowed.ensures);
-  terms-kept = refl;
+      (sym (c.earlier.ensures ∙ ap (earlier_of c.first_of_services.result) c.first_of_row.ensures))
+      (first-of-all c.args.terms.now.terms c.args.row.now.row c.args.terms.now.ten (g.P.PlantLimit.allowed c.args.plant.now) c.first_of_services.result _ _ _
+      c.first_of_services.ensures c.exceeds-rise_breaks.ensures c.exceeds-fall_breaks.ensures c.is_allowed.ensures);
+  terms_kept = refl;
   row_kept = refl;
-  plant-kept = refl;
+  plant_kept = refl;
 }

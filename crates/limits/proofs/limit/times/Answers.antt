@@ -6,8 +6,8 @@ use Rattle.limits.proofs.limit.times.Goals as goal
 same : (r m z : ℤ) → SFits w64 r → SFits w64 z → r ≡ m → to_z w64 (of_z w64 r) *ℤ to_z w64 (of_z w64 z) ≡ m *ℤ z
 same r m z f g e = rw (to_z-of_z w64 r f, to_z-of_z w64 z g, e)
 
-pub overflow-mul-result : goal.overflow-mul-result
-overflow-mul-result c =
+pub overflow_mul-result : goal.overflow_mul-result
+overflow_mul-result c =
     let f : SFits w64 c.from.result = search rules in
     rw (same c.from.result (pos c.args.power) c.args.at f c.ranges.at c.from.ensures) (product_fits _ (product c.args.power c.args.at c.requires.power c.requires.at))
 

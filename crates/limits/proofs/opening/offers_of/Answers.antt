@@ -17,10 +17,10 @@ pub loop-number-preserved : goal.loop-number-preserved
 loop-number-preserved c =
     let within : c.loop-number.number < length c.loop-number.offers = omega (arith, c.loop-number.invariant.0) in
     let read = get_or_default c.args.bids.now c.loop-number.number c.index-bids-number.result None (omega (arith, c.told-bids)) in
-    let known = of_bid c.args.kind c.args.reading.now.measured c.loop-number.number c.offer-of.result _ _ c.offer-of.ensures.value read in (
-      length-set c.loop-number.offers c.loop-number.number c.offer-of.result ∙ c.loop-number.invariant.0,
+    let known = of_bid c.args.kind c.args.reading.now.measured c.loop-number.number c.offer_of.result _ _ c.offer_of.ensures.value read in (
+      length-set c.loop-number.offers c.loop-number.number c.offer_of.result ∙ c.loop-number.invariant.0,
       place_more (λ (s : ℕ) (o : Offer). (o ≡ offer_of c.args.kind c.args.reading.now.measured s (option_map (λ checked. checked.bid) (get_or c.args.bids.now s None))) × (in_bounds o ≡ true))
-          no_offer c.loop-number.offers c.loop-number.number c.offer-of.result within c.loop-number.invariant.1 (known, c.offer-of.ensures.bound),
+          no_offer c.loop-number.offers c.loop-number.number c.offer_of.result within c.loop-number.invariant.1 (known, c.offer_of.ensures.bound),
     )
 
 pub returns : goal.returns

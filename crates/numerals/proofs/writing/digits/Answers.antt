@@ -10,7 +10,7 @@ loop-front-preserved c =
     let within : c.loop-front.first < length c.loop-front.bytes = omega (arith, i.0, i.3) in (
       omega (arith, i.0),
       tenth c.loop-front.first c.loop-front.front i.1 some,
-      one_more _ _ _ _ _ c.loop-front-test.true small some within c.last-digit.ensures i.2,
+      one_more _ _ _ _ _ c.loop-front-test.true small some within c.last_digit.ensures i.2,
       search rules,
       omega (arith, i.4),
     )
@@ -21,5 +21,5 @@ returns c =
     record {
       begins = i.0;
       places = search rules;
-      spelled = all_places _ _ _ _ _ (omega (arith, c.ranges.number)) c.loop-front-test.false i.0 i.3 c.last-digit-2.ensures i.2;
+      spelled = all_places _ _ _ _ _ (omega (arith, c.ranges.number)) c.loop-front-test.false i.0 i.3 c.last_digit-2.ensures i.2;
     }

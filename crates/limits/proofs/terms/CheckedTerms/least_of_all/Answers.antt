@@ -47,23 +47,23 @@ module _ (terms : Terms) (row : Row) (own : ℕ) (l : own < 10) where
 
 pub loop-own-preserved : goal.loop-own-preserved
 loop-own-preserved c =
-    let a = c.if-not-narrow-availability.ensures in
-    let u = c.if-not-narrow-upper.ensures in
-    let w = c.if-not-narrow-lower.ensures in (
-      (λ s l. held_three c.args.self.now.terms c.args.row.now.row c.loop-own.own_val c.loop-own-test.true s (inside c.args.row.now s l)
-          (get_or c.loop-own.best s no_best) (get_or c.narrow-availability.new.best s no_best) (get_or c.narrow-upper.new.best s no_best) (get_or c.narrow-lower.new.best s no_best)
+    let a = c.if-not-narrow_availability.ensures in
+    let u = c.if-not-narrow_upper.ensures in
+    let w = c.if-not-narrow_lower.ensures in (
+      (λ s l. held_three c.args.self.now.terms c.args.row.now.row c.loop-own.own c.loop-own-test.true s (inside c.args.row.now s l)
+          (get_or c.loop-own.best s no_best) (get_or c.narrow_availability.new.best s no_best) (get_or c.narrow_upper.new.best s no_best) (get_or c.narrow_lower.new.best s no_best)
           (c.loop-own.invariant.0 s l) a.0 (a.1 s l) u.0 (u.1 s l) w.0 (w.1 s l)),
-      below_three c.args.self.now.terms c.args.row.now.row c.loop-own.own_val c.loop-own-test.true c.loop-own.invariant.1 a.0 u.0 w.0,
+      below_three c.args.self.now.terms c.args.row.now.row c.loop-own.own c.loop-own-test.true c.loop-own.invariant.1 a.0 u.0 w.0,
     )
 
 pub returns : goal.returns
 returns c =
-    let ends : 3 * c.loop-own.own_val ≡ 30 = omega arith in
+    let ends : 3 * c.loop-own.own ≡ 30 = omega arith in
     let ten = ten-sides c.args.self.now.terms c.args.row.now.row c.args.self.now.ten in (
       (λ s l.
           let in' = inside c.args.row.now s l in
-          let services = held_place c.args.self.now.terms c.args.row.now.row s in' (3 * c.loop-own.own_val) 30 (get_or c.loop-own.best s no_best) ends (c.loop-own.invariant.0 s l) in
-          let rise = at-rise c.args.self.now.terms c.args.row.now.row s in' c.args.self.now.ten (get_or c.loop-own.best s no_best) (get_or c.narrow-rise.new.best s no_best) services c.if-not-narrow-rise.ensures.0 (c.if-not-narrow-rise.ensures.1 s l) in
-          at-fall c.args.self.now.terms c.args.row.now.row s in' c.args.self.now.ten (get_or c.narrow-rise.new.best s no_best) (get_or c.narrow-fall.new.best s no_best) rise c.if-not-narrow-fall.ensures.0 (c.if-not-narrow-fall.ensures.1 s l)),
-      after-ramp-up _ ten (after-services _ ten (subst (λ (n : ℕ). Below (λ limit. exceeded (sides_of c.args.self.now.terms c.args.row.now.row limit)) n) ends c.loop-own.invariant.1) c.if-not-narrow-rise.ensures.0) c.if-not-narrow-fall.ensures.0,
+          let services = held_place c.args.self.now.terms c.args.row.now.row s in' (3 * c.loop-own.own) 30 (get_or c.loop-own.best s no_best) ends (c.loop-own.invariant.0 s l) in
+          let rise = at-rise c.args.self.now.terms c.args.row.now.row s in' c.args.self.now.ten (get_or c.loop-own.best s no_best) (get_or c.narrow_rise.new.best s no_best) services c.if-not-narrow_rise.ensures.0 (c.if-not-narrow_rise.ensures.1 s l) in
+          at-fall c.args.self.now.terms c.args.row.now.row s in' c.args.self.now.ten (get_or c.narrow_rise.new.best s no_best) (get_or c.narrow_fall.new.best s no_best) rise c.if-not-narrow_fall.ensures.0 (c.if-not-narrow_fall.ensures.1 s l)),
+      after-ramp-up _ ten (after-services _ ten (subst (λ (n : ℕ). Below (λ limit. exceeded (sides_of c.args.self.now.terms c.args.row.now.row limit)) n) ends c.loop-own.invariant.1) c.if-not-narrow_rise.ensures.0) c.if-not-narrow_fall.ensures.0,
     )

@@ -16,20 +16,20 @@ returns-in-Some-joint c =
     let holds : exceeded (sides_of c.args.self.now.terms c.args.row.now.row c.args.limit) ≡ false = search rules in (
       holds,
       two-narrowed c.args.self.now.terms c.args.limit (sides_of c.args.self.now.terms c.args.row.now.row c.args.limit) (amount c.args.row.now.row) c.args.best.now
-          c.by-own.result c.in-Some-joint.other c.cap.result c.cap-in-Some-joint.result c.narrow-place.new.best c.narrow-place-in-Some-joint.new.best
+          c.by-own.result c.in-Some-joint.other c.cap.result c.cap-in-Some-joint.result c.narrow_place.new.best c.narrow_place-in-Some-joint.new.best
           c.by-own.ensures (sym c.requires.joint ∙ c.in-Some-joint.is)
-          (known (sides_of c.args.self.now.terms c.args.row.now.row c.args.limit) c.in-Some.sides _ _ _ _ _ _ (sym c.in-Some.is ∙ c.requires.sides) c.cap.ensures c.amount.ensures.value c.room-room.ensures.value (c.requires.own_val ∙ ap (λ (x : ℕ). coefficient_of c.args.self.now.terms c.args.limit x) (sym c.by-own.ensures)))
+          (known (sides_of c.args.self.now.terms c.args.row.now.row c.args.limit) c.in-Some.sides _ _ _ _ _ _ (sym c.in-Some.is ∙ c.requires.sides) c.cap.ensures c.amount.ensures.value c.room-room.ensures.value (c.requires.own ∙ ap (λ (x : ℕ). coefficient_of c.args.self.now.terms c.args.limit x) (sym c.by-own.ensures)))
           (known (sides_of c.args.self.now.terms c.args.row.now.row c.args.limit) c.in-Some.sides _ _ _ _ _ _ (sym c.in-Some.is ∙ c.requires.sides) c.cap-in-Some-joint.ensures c.amount-in-Some-joint.ensures.value c.room-room.ensures.value (c.requires.other c.in-Some-joint.other c.in-Some-joint.is))
-          c.narrow-place.ensures c.narrow-place-in-Some-joint.ensures,
+          c.narrow_place.ensures c.narrow_place-in-Some-joint.ensures,
     )
 
-pub returns-in-default-joint : goal.returns-in-default-joint
-returns-in-default-joint c =
+pub returns-in_default-joint : goal.returns-in_default-joint
+returns-in_default-joint c =
     let holds : exceeded (sides_of c.args.self.now.terms c.args.row.now.row c.args.limit) ≡ false = search rules in (
       holds,
       one-narrowed c.args.self.now.terms c.args.limit (sides_of c.args.self.now.terms c.args.row.now.row c.args.limit) (amount c.args.row.now.row) c.args.best.now
-          c.by-own.result c.cap.result c.narrow-place.new.best
-          c.by-own.ensures (sym c.requires.joint ∙ c.in-default-joint.is)
-          (known (sides_of c.args.self.now.terms c.args.row.now.row c.args.limit) c.in-Some.sides _ _ _ _ _ _ (sym c.in-Some.is ∙ c.requires.sides) c.cap.ensures c.amount.ensures.value c.room-room.ensures.value (c.requires.own_val ∙ ap (λ (x : ℕ). coefficient_of c.args.self.now.terms c.args.limit x) (sym c.by-own.ensures)))
-          c.narrow-place.ensures,
+          c.by-own.result c.cap.result c.narrow_place.new.best
+          c.by-own.ensures (sym c.requires.joint ∙ c.in_default-joint.is)
+          (known (sides_of c.args.self.now.terms c.args.row.now.row c.args.limit) c.in-Some.sides _ _ _ _ _ _ (sym c.in-Some.is ∙ c.requires.sides) c.cap.ensures c.amount.ensures.value c.room-room.ensures.value (c.requires.own ∙ ap (λ (x : ℕ). coefficient_of c.args.self.now.terms c.args.limit x) (sym c.by-own.ensures)))
+          c.narrow_place.ensures,
     )

@@ -3,11 +3,11 @@ use Rattle.limits.specs.declared.terms.Offer.{Offer}
 use Rattle.limits.proofs.Joint.{upper_own, upper_joint}
 use Rattle.limits.proofs.terms.CheckedTerms.narrow_upper.Goals as goal
 
-pub narrow-all-requires : goal.narrow-all-requires
-narrow-all-requires c = record {
-  sides = c.upper-limit-sides.ensures.value;
-  bound = c.upper-limit-sides.ensures.bound;
-  own = ap (λ (o : Offer). o.upper_run) c.offer-offer.ensures.value ∙ sym (upper_own c.args.self.now.terms c.args.own_val);
+pub narrow_all-requires : goal.narrow_all-requires
+narrow_all-requires c = record {
+  sides = c.upper_limit_sides.ensures.value;
+  bound = c.upper_limit_sides.ensures.bound;
+  own = ap (λ (o : Offer). o.upper_run) c.offer-offer.ensures.value ∙ sym (upper_own c.args.self.now.terms c.args.own);
   joint = c.joint-joint.ensures;
-  other = λ j e. ap (λ (o : Offer). o.bid_availability) c.offer-offer.ensures.value ∙ sym (upper_joint c.args.self.now.terms c.args.own_val j (sym c.joint-joint.ensures ∙ e));
+  other = λ j e. ap (λ (o : Offer). o.bid_availability) c.offer-offer.ensures.value ∙ sym (upper_joint c.args.self.now.terms c.args.own j (sym c.joint-joint.ensures ∙ e));
 }

@@ -15,7 +15,7 @@ returns-then-adds c =
     let ten : length c.args.row.now.amounts ≡ 10 = search rules in
     let within : c.args.service < length c.args.row.now.amounts = omega arith in
     record {
-      value = known (λ a. a) _ c.args.service c.greatest.result c.room.result _ (record { sfits = c.room.type-inv }) c.room.ensures
+      value = known (λ a. a) _ c.args.service c.greatest.result c.room.result _ (record { sfits = c.room.type_inv }) c.room.ensures
           (room-adds c.args.self.now c.args.row.now c.args.service within (sym c.if-adds.ensures)) c.greatest.ensures;
       plant-kept = refl;
       row_kept = refl;
@@ -26,7 +26,7 @@ returns-else-adds c =
     let ten : length c.args.row.now.amounts ≡ 10 = search rules in
     let within : c.args.service < length c.args.row.now.amounts = omega arith in
     record {
-      value = known (λ _. 0) _ c.args.service c.greatest-else-adds.result c.room-else-adds.result _ (record { sfits = c.room-else-adds.type-inv }) c.room-else-adds.ensures
+      value = known (λ _. 0) _ c.args.service c.greatest-else-adds.result c.room-else-adds.result _ (record { sfits = c.room-else-adds.type_inv }) c.room-else-adds.ensures
           (room-else c.args.self.now c.args.row.now c.args.service within (sym c.if-adds.ensures)) c.greatest-else-adds.ensures;
       plant-kept = refl;
       row_kept = refl;
