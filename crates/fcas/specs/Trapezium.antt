@@ -52,7 +52,7 @@ effective_enablement_max kind service bid m = at_most (forecast_of kind m) (at_m
 abbrev pub effective_max_availability : Kind → ℕ → Bid → Measured → ℕ
 effective_max_availability kind service bid m = at_most (option_map (λ ramp. 5 * ramp) (ramp_of kind service m)) bid.max_availability
 
--- What the bid's slopes rise over: the upper slope is `upperRun` over the bid's maximum availability, the lower one `lowerRun` over it.
+-- What the bid's slopes rise over: the upper slope is `upper_run_of` over the bid's maximum availability, the lower one `lower_run_of` over it.
 abbrev pub upper_run_of : Bid → ℕ
 upper_run_of bid = bid.enablement_max - bid.high_breakpoint
 

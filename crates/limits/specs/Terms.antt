@@ -17,9 +17,9 @@ no_offer = record { live = false; ground = 11; bid_availability = 0; upper_run =
 -- What a service has to offer: whether it is live, the ground that keeps it out (0 for none), the bid's maximum availability and the runs of its slopes, and the effective numbers.
 abbrev pub offer_of : Kind → Measured → ℕ → Option Bid → Offer
 offer_of kind m service None = no_offer
-offer_of kind m service (Some bid) = record {
+offer_of kind m service (Some bid) = let ground : ℕ = unwrap_or (ground_of kind service (Some bid) m) 0 in record {
   live = not (is_some (ground_of kind service (Some bid) m));
-  ground = unwrap_or (ground_of kind service (Some bid) m) 0;
+  ground = ground;
   bid_availability = bid.max_availability;
   upper_run = upper_run_of bid;
   lower_run = lower_run_of bid;

@@ -1,6 +1,5 @@
 // A plant without a limit of its own.
-ghost use Rattle.std.specs.Prelude.{true};
-ghost use Rattle.std.proofs.Common.{rules};
+ghost use Rattle.std.specs.Prelude.{true, refl};
 
 use limits::{PlantLimit, Row};
 
@@ -10,7 +9,7 @@ pub struct Bare;
 impl PlantLimit for Bare {
     ghost allowed = { λ _ _. true };
 
-    ghost lowering = { Prim.search rules };
+    ghost lowering = { λ _ _ _ _ _ _. refl };
 
     fn allows(&self, _row: &Row) -> bool {
         true

@@ -27,12 +27,12 @@ impl PlantLimit for PlantChoice {
 
     ghost lowering = { elim [
       | Bare bare ↦ λ row s a l h. refl
-      | Cap cap ↦ λ row s a l h. cap-lowering cap row s a l h
-      | Share share ↦ λ row s a l h. share-lowering share row s a l h
+      | Cap cap ↦ λ row s a l h. cap_lowering cap row s a l h
+      | Share share ↦ λ row s a l h. share_lowering share row s a l h
       | CapAndShare both ↦
           λ row s a l h.
           let parts = and_parts (cap_allows both.0 row) (share_allows both.1 row) h in
-          and_from _ _ (cap-lowering both.0 row s a l parts.0) (share-lowering both.1 row s a l parts.1)
+          and_from _ _ (cap_lowering both.0 row s a l parts.0) (share_lowering both.1 row s a l parts.1)
     ] };
 
     fn allows(&self, row: &Row) -> bool {

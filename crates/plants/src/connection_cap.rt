@@ -68,7 +68,7 @@ impl ConnectionCap {
 impl PlantLimit for ConnectionCap {
     ghost allowed = { cap_allows };
 
-    ghost lowering = { λ plant row s a l h. cap-lowering plant row s a l h };
+    ghost lowering = { λ plant row s a l h. cap_lowering plant row s a l h };
 
     fn allows(&self, row: &Row) -> bool {
         flow(row) <= i64::from(self.cap(row.unit))

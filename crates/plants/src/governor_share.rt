@@ -48,7 +48,7 @@ fn share_left(share: u32, together: u64, amount: u32, service: u8) -> Option<u32
 impl PlantLimit for GovernorShare {
     ghost allowed = { share_allows };
 
-    ghost lowering = { λ plant row s a l h. share-lowering plant row s a l h };
+    ghost lowering = { λ plant row s a l h. share_lowering plant row s a l h };
 
     fn allows(&self, row: &Row) -> bool {
         (raises(row) <= u64::from(self.raise)) & (lowers(row) <= u64::from(self.lower))

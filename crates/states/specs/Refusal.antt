@@ -29,7 +29,7 @@ told NoInterval = plain 27
 told PassUnknown = plain 28
 told NoEnergy = plain 29
 told NotLive = plain 30
-told (LimitBroken ground by) = record { number = 31; limit = Some (ground, by) }
+told (LimitBroken limit by) = record { number = 31; limit = Some (limit, by) }
 
 -- What is said of a limit that breaks.
 abbrev pub limit_told : Kind → Limit → Told

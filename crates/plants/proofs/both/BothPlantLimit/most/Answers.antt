@@ -13,6 +13,6 @@ returns-in-Some-Some g c = record {
         (falls (g.R.PlantLimit.allowed c.args.self.now.1) c.args.service (λ r a. g.met.R.PlantLimit.lowering c.args.self.now.1 r c.args.service a) c.args.row.now)
         c.in-Some-Some.a c.in-Some-Some.b c.lesser.result c.lesser.ensures c.in-Some-Some.ensures.value.1 c.in-Some-Some.ensures'.value.1,
   );
-  plant-kept = refl;
+  plant_kept = refl;
   row_kept = refl;
 }

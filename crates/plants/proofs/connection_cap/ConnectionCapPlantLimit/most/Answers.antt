@@ -17,7 +17,7 @@ returns-then-adds c =
     record {
       value = known (λ a. a) _ c.args.service c.greatest.result c.room.result _ (record { sfits = c.room.type_inv }) c.room.ensures
           (room-adds c.args.self.now c.args.row.now c.args.service within (sym c.if-adds.ensures)) c.greatest.ensures;
-      plant-kept = refl;
+      plant_kept = refl;
       row_kept = refl;
     }
 
@@ -28,6 +28,6 @@ returns-else-adds c =
     record {
       value = known (λ _. 0) _ c.args.service c.greatest-else-adds.result c.room-else-adds.result _ (record { sfits = c.room-else-adds.type_inv }) c.room-else-adds.ensures
           (room-else c.args.self.now c.args.row.now c.args.service within (sym c.if-adds.ensures)) c.greatest-else-adds.ensures;
-      plant-kept = refl;
+      plant_kept = refl;
       row_kept = refl;
     }
