@@ -1,5 +1,5 @@
 -- What the one test of a reading says of each of its fields.
-use Rattle.std.proofs.Common.{◌≡◌, ℕ, ◌≤◌, Bool, true, ◌&&◌, leb, Some, None, Option, refl}
+use Rattle.std.proofs.Common.{◌≡◌, ◌≤◌, Bool, true, ◌&&◌, leb, Some, None, Option, refl}
 use lib.Ieee.{Float}
 use Rattle.std.proofs.lemmas.Bool.{and_parts, leb-true}
 use Rattle.fcas.specs.declared.reading.Reading.{Reading}

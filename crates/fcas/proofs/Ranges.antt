@@ -1,13 +1,12 @@
 -- The ranges of a reading, in megawatts and in whole kilowatts.
-use Rattle.std.proofs.Common.{◌≡◌, ℕ, zero, suc, ◌+◌, ◌*◌, ◌^◌, ◌<◌, ◌≤◌, Bool, true, false, ◌&&◌, ◌||◌, T, eqb, ltb, ◌⊎◌, ℤ, pos, negsuc, neg_ℤ, nat_abs, ◌≤ℤ◌, sym, refl, subst, inl, inr, zero-le, le_trans, le_of_eq, le_of_suc-le-suc, not-suc-le-zero, mul-le-mul_right, zero-lt-suc, eq-or-lt_of_le, mul-pos, mul-one, arith, lit≤, le→leb, lt→ltb}
-use mathlib.Core.Bool.{false≢true}
+use Rattle.std.proofs.Common.{◌≡◌, ℕ, zero, suc, ◌+◌, ◌*◌, ◌^◌, ◌≤◌, Bool, true, false, ◌&&◌, ◌||◌, T, eqb, ltb, ◌⊎◌, ℤ, pos, negsuc, neg_ℤ, ◌≤ℤ◌, sym, refl, subst, inl, inr, zero-le, le_trans, le_of_eq, le_of_suc-le-suc, not-suc-le-zero, mul-le-mul_right, zero-lt-suc, eq-or-lt_of_le, mul-pos, mul-one, arith, lit≤, le→leb, lt→ltb}
 use lib.Signed.{le_z_yes}
 use lib.Ieee.{Float, nan, inf, fin, up, down, le, of_bits}
 use lib.Ieee.Fits.{eq→eqb, down_pos, and_i}
 use Rattle.fcas.specs.Kilowatts.{zero_mw, most_ramp_mw, most_mw, least_mw, within, thousandfold, nearest_whole, kilowatts_of}
 use Rattle.fcas.proofs.Sizes.{Size, between, up_to}
 use Rattle.std.proofs.lemmas.Bool.{and_from, and_parts}
-use Rattle.fcas.proofs.Rounding.{left_positive, or_l, right_positive, signed, kilowatts_signed, Castable, castable}
+use Rattle.fcas.proofs.Rounding.{left_positive, or_l, right_positive, kilowatts_signed, Castable, castable}
 
 -- ---- the test of a range, in its two parts
 

@@ -1,10 +1,10 @@
 -- The kilowatts of a float of a known sign and size: a whole number of that sign, of at most a thousand times the size, which a cast to 64 bits keeps.
-use Rattle.std.proofs.Common.{◌≡◌, ℕ, zero, suc, ◌+◌, ◌*◌, ◌/◌, ◌^◌, ◌<◌, ◌≤◌, Bool, true, false, ◌||◌, T, ltb, ℤ, pos, neg_ℤ, sym, refl, ap, ◌∙◌, subst, le_trans, le_of_eq, le_of_suc-le-suc, lt_of_le_of_lt, le_of_lt, mul-le-mul_right, zero-lt-suc, suc-mul, div-lt_iff_lt-mul, mul-lt-mul_of_pos_right, mul-pos, mul-one, mul_right_comm, mul_left_comm, arith, le→leb, lt→ltb}
+use Rattle.std.proofs.Common.{◌≡◌, ℕ, zero, suc, ◌+◌, ◌*◌, ◌^◌, ◌<◌, ◌≤◌, Bool, true, false, ◌||◌, T, ltb, ℤ, pos, neg_ℤ, sym, refl, ap, ◌∙◌, subst, le_trans, le_of_eq, le_of_suc-le-suc, lt_of_le_of_lt, le_of_lt, mul-le-mul_right, zero-lt-suc, suc-mul, div-lt_iff_lt-mul, mul-lt-mul_of_pos_right, mul-pos, mul-one, mul_right_comm, mul_left_comm, arith, le→leb, lt→ltb}
 use lib.Ieee.{Float, nan, inf, fin, binary64, up, down, round, mul, lt, le, of_int, of_bits, to_signed, in_float}
 use lib.Ieee.Fits.{down_pos}
 use lib.Ieee.Exact.{HasValue}
 use lib.Ieee.Back.{round_whole, positive_back, negative_back}
-use Rattle.std.specs.Float.{round_with, ratio_round_half_up, float_round}
+use Rattle.std.specs.Float.{round_with, ratio_round_half_up}
 use Rattle.fcas.specs.Kilowatts.{thousand, thousandfold, nearest_whole, kilowatts_of}
 use Rattle.fcas.proofs.Sizes.{Size, round_sized}
 

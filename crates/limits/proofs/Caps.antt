@@ -1,5 +1,5 @@
 -- The cap of a limit: it holds at the amounts up to it, and breaks at every one above.
-use Rattle.std.proofs.Common.{◌≡◌, ℕ, zero, suc, ◌+◌, ◌*◌, ◌/◌, ◌%◌, ◌<◌, ◌≤◌, min, Bool, true, false, cond, eqb, ℤ, pos, ◌+ℤ◌, ◌-ℤ◌, nat_abs, ◌≤ℤ◌, Some, None, Option, sym, refl, ap, ◌∙◌, subst, ⊎_elim, mul_comm, zero-mul, mul-add, arith}
+use Rattle.std.proofs.Common.{◌≡◌, ℕ, ◌+◌, ◌*◌, ◌/◌, ◌<◌, ◌≤◌, min, Bool, true, false, eqb, ℤ, pos, ◌+ℤ◌, ◌-ℤ◌, nat_abs, ◌≤ℤ◌, Some, None, Option, sym, refl, ap, subst, ⊎_elim, mul_comm, zero-mul, mul-add, arith}
 use lib.Signed.{lt_z, pos-nat_abs, yes_non_neg}
 use Rattle.std.proofs.lemmas.Nat.{div-add-mod', mod_below, mul-le}
 use Rattle.std.proofs.lemmas.Int.{ints}
@@ -7,7 +7,7 @@ use Rattle.std.proofs.lemmas.Bool.{cases_eq, cond-true, cond-false, eq-eqb, ne_e
 use Rattle.limits.specs.Limit.{exceeded}
 use Rattle.limits.specs.Narrowing.{cap_by, cap_of}
 use Rattle.limits.specs.declared.limit.Sides.{Sides}
-use Rattle.limits.proofs.Linear.{Steps, StepsIf}
+use Rattle.limits.proofs.Linear.{StepsIf}
 
 -- A test fails up to the cap and passes above it, as far as 4,000,001; without a cap it fails everywhere.
 pub record Upto (breaks : ℕ → Bool) (cap : ℕ) : Type 0 where

@@ -1,12 +1,12 @@
 -- The first least of the caps of the limits before a place.
-use Rattle.std.proofs.Common.{◌≡◌, ℕ, ◌+◌, ◌*◌, ◌<◌, ◌≤◌, Bool, true, false, cond, ltb, get_or, Some, None, Option, sym, refl, ap, ◌∙◌, subst, ⊎_elim, arith}
+use Rattle.std.proofs.Common.{◌≡◌, ℕ, ◌+◌, ◌*◌, ◌<◌, ◌≤◌, Bool, false, ltb, get_or, Some, None, Option, sym, refl, subst, ⊎_elim, arith}
 use Rattle.std.proofs.lemmas.Bool.{cases_lt, cond-true, cond-false, lt-ltb, le-ltb}
 use Rattle.limits.specs.Limit.{place}
 use Rattle.limits.specs.Narrowing.{Below, Held, limits_of, narrowed_to}
 use Rattle.limits.specs.declared.limit.Limit.{Limit}
 use Rattle.limits.specs.declared.limit.Limit.TheVariants.{RampUp, RampDown}
 use Rattle.limits.specs.declared.narrowing.Best.{Best}
-use Rattle.limits.proofs.Caps.{Upto, UptoIf}
+use Rattle.limits.proofs.Caps.{UptoIf}
 use Rattle.limits.proofs.Orders.{TenOnly, place_of, below_none, below_more, after-services, after-ramp-up}
 
 module _ (f : ℕ → Limit → Bool) where

@@ -1,5 +1,5 @@
 -- What the tests of a whole list say of each of its elements.
-use Rattle.std.proofs.Common.{◌≡◌, ℕ, zero, suc, ◌≤◌, Bool, true, false, ◌&&◌, ◌||◌, ltb, leb, List, [], ◌∷◌, get_or, set, arith}
+use Rattle.std.proofs.Common.{◌≡◌, ℕ, zero, suc, ◌≤◌, true, false, ltb, List, [], ◌∷◌, get_or, set, arith}
 use Rattle.std.proofs.lemmas.Bool.{and_parts, or_from, or_parts, le-ltb, leb-true, ltb-false}
 use Rattle.fcas.specs.Bid.{some_above}
 use Rattle.limits.specs.Bounds.{Powers}

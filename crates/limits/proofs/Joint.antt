@@ -1,12 +1,12 @@
 -- At most two services take from the room of a limit.
 use Rattle.std.proofs.Common.{◌≡◌, ℕ, ◌<◌, Bool, true, false, cond, eqb, List, get_or, Some, None, Option, sym, refl, ap, ◌∙◌, subst, ⊎_elim, arith}
-use Rattle.std.proofs.lemmas.Bool.{cases_Bool, cases_eq, cond-true, cond-false, eq-eqb, ne_eqb, both_ways}
+use Rattle.std.proofs.lemmas.Bool.{cases_eq, cond-true, cond-false, eq-eqb, ne_eqb, both_ways}
 use Rattle.fcas.specs.Kind.{upward, downward}
 use Rattle.fcas.specs.Service.{regulating}
 use Rattle.fcas.specs.declared.kind.Kind.{Kind}
 use Rattle.fcas.specs.declared.kind.Kind.TheVariants.{Generator, SemiScheduled, Load, DemandResponse}
 use Rattle.limits.specs.Limit.{limit_by, offer_at}
-use Rattle.limits.specs.Narrowing.{cap_by, cap_of, coefficient_of, joint_of, narrowed_to, no_best}
+use Rattle.limits.specs.Narrowing.{cap_by, coefficient_of, joint_of, narrowed_to, no_best}
 use Rattle.limits.specs.declared.limit.Limit.{Limit}
 use Rattle.limits.specs.declared.limit.Limit.TheVariants.{Availability, Upper, Lower, RampUp, RampDown, Plant}
 use Rattle.limits.specs.declared.limit.Sides.{Sides}

@@ -1,5 +1,5 @@
 -- A limit narrows the least so far by its cap.
-use Rattle.std.proofs.Common.{◌≡◌, ℕ, ◌+◌, ◌*◌, ◌<◌, Bool, true, false, length, get_or, Some, None, Option, sym, subst, arith}
+use Rattle.std.proofs.Common.{◌≡◌, ℕ, ◌+◌, ◌*◌, ◌<◌, false, length, get_or, Some, None, Option, sym, subst}
 use Rattle.limits.specs.Limit.{exceeded, sides_of}
 use Rattle.limits.specs.Narrowing.{Held, Least, Narrowed, cap_by, coefficient_of, exceeded_with, limits_of, narrowed_to}
 use Rattle.limits.specs.Row.{amount, with_amount}

@@ -1,5 +1,5 @@
 -- The records of figures, from what settles them.
-use Rattle.std.proofs.Common.{◌≡◌, ℕ, ◌+◌, Bool, true, false, not, length, MatchBool, sym, refl, ap, ◌∙◌, subst, arith}
+use Rattle.std.proofs.Common.{◌≡◌, ℕ, ◌+◌, Bool, true, false, not, length, MatchBool, sym, ap, ◌∙◌, subst, arith}
 use Rattle.std.proofs.lemmas.Bool.{both_ways, not_from_false}
 use Rattle.fcas.specs.declared.kind.Kind.{Kind}
 use Rattle.limits.specs.Figure.{GreatestBorne, LiveFigure}

@@ -1,16 +1,14 @@
 -- The plant's limit comes last, and settles the figure.
-use Rattle.std.proofs.Common.{◌≡◌, ℕ, ◌+◌, ◌*◌, ◌<◌, ◌≤◌, Bool, true, false, cond, not, ltb, List, length, get_or, set, pos, Some, None, Option, sym, refl, ap, ◌∙◌, subst, ⊎_elim, arith}
-use lib.Signed.{lt_z}
+use Rattle.std.proofs.Common.{◌≡◌, ℕ, ◌+◌, ◌<◌, ◌≤◌, Bool, true, false, cond, ltb, List, length, pos, Some, None, sym, ap, ◌∙◌, subst, ⊎_elim, arith}
 use Rattle.std.proofs.lemmas.List.{get_or-set_same, set-set}
 use Rattle.std.proofs.lemmas.Bool.{both_ways, cases_Bool, cases_lt, cond-true, cond-false, le-ltb, lt-ltb, ltb-false, not_from_false}
 use Rattle.limits.specs.Figure.{GreatestBorne, breaks_with}
-use Rattle.limits.specs.Limit.{First, Borne, breaks, exceeded, offer_at, place, sides_of, while_live}
-use Rattle.limits.specs.Narrowing.{Below, Held, exceeded_with, narrowed_to}
+use Rattle.limits.specs.Limit.{Borne, breaks, exceeded, offer_at, place, while_live}
+use Rattle.limits.specs.Narrowing.{Held, exceeded_with, narrowed_to}
 use Rattle.limits.specs.Plant.{Most}
 use Rattle.limits.specs.Row.{amount, with_amount}
 use Rattle.limits.specs.declared.limit.Limit.{Limit}
 use Rattle.limits.specs.declared.limit.Limit.TheVariants.{Availability, Plant}
-use Rattle.limits.specs.declared.limit.Sides.{Sides}
 use Rattle.limits.specs.declared.narrowing.Best.{Best}
 use Rattle.limits.specs.declared.row.Row.{Row}
 use Rattle.limits.specs.declared.terms.Offer.{Offer}

@@ -1,5 +1,5 @@
 -- Bounds that keep sums and products within 64 bits. They are no part of the rules.
-use Rattle.std.specs.Prelude.{ℕ, ◌≤◌, ℤ, pos, negsuc, ◌≤ℤ◌, Some, None, Option}
+use Rattle.std.specs.Prelude.{◌≤◌, ℤ, pos, negsuc, ◌≤ℤ◌, Some, None, Option}
 use Rattle.limits.specs.declared.limit.Sides.{Sides}
 use Rattle.limits.specs.declared.terms.Offer.{Offer}
 

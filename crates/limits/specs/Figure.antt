@@ -1,5 +1,5 @@
 -- The figure of a service: the greatest amount that a row bears, and the limit that one kilowatt more breaks first.
-use Rattle.std.specs.Prelude.{◌≡◌, ℕ, ◌+◌, ◌<◌, ◌≤◌, Bool, true, false, List, Some, None, MatchBool, Option, ◌≢◌, slice_index_or}
+use Rattle.std.specs.Prelude.{◌≡◌, ℕ, ◌+◌, ◌<◌, ◌≤◌, Bool, true, List, Some, None, MatchBool, Option, ◌≢◌, slice_index_or}
 use Rattle.fcas.specs.declared.kind.Kind.{Kind}
 use Rattle.limits.specs.Limit.{Borne, First, breaks, limit_by, limit_number, offer_at}
 use Rattle.limits.specs.Row.{with_amount}

@@ -1,5 +1,5 @@
 -- A row: the energy and the ten amounts of a unit.
-use Rattle.std.specs.Prelude.{ℕ, Bool, ◌||◌, List, [], ◌∷◌, pos, int_lt, slice_index, slice_set}
+use Rattle.std.specs.Prelude.{ℕ, ◌||◌, List, [], ◌∷◌, pos, int_lt, slice_index, slice_set}
 use Rattle.fcas.specs.Bid.{some_above}
 use Rattle.fcas.specs.Checks.{Finding}
 use Rattle.limits.specs.declared.row.Row.{Row}

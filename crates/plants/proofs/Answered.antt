@@ -1,5 +1,5 @@
 -- The greatest amount that passes, of tests that are made from others.
-use Rattle.std.proofs.Common.{◌≡◌, ℕ, ◌≤◌, min, Bool, true, false, ◌&&◌, Some, None, Option, sym, ◌∙◌, arith}
+use Rattle.std.proofs.Common.{◌≡◌, ℕ, ◌≤◌, min, Bool, true, ◌&&◌, Some, None, Option, sym, ◌∙◌, arith}
 use Rattle.std.proofs.lemmas.Bool.{and_from, and_parts}
 use Rattle.limits.specs.Plant.{Greatest, Most}
 

@@ -18,8 +18,8 @@ impl<L: PlantLimit, R: PlantLimit> PlantLimit for Both<L, R> {
     ghost allowed = { λ plant row. L.PlantLimit.allowed plant.0 row && R.PlantLimit.allowed plant.1 row };
 
     ghost lowering = { λ plant row s a l h.
-      let parts = and_parts (L.PlantLimit.allowed plant.0 row) (R.PlantLimit.allowed plant.1 row) h in
-      and_from _ _ (L.PlantLimit.lowering plant.0 row s a l parts.0) (R.PlantLimit.lowering plant.1 row s a l parts.1) };
+        let parts = and_parts (L.PlantLimit.allowed plant.0 row) (R.PlantLimit.allowed plant.1 row) h in
+        and_from _ _ (L.PlantLimit.lowering plant.0 row s a l parts.0) (R.PlantLimit.lowering plant.1 row s a l parts.1) };
 
     fn allows(&self, row: &Row) -> bool {
         self.0.allows(row) & self.1.allows(row)

@@ -1,4 +1,4 @@
-use Rattle.std.proofs.Common.{◌≡◌, ℕ, ◌<◌, length, sym, refl, ◌∙◌, arith, length-set}
+use Rattle.std.proofs.Common.{◌<◌, length, sym, refl, ◌∙◌, arith, length-set}
 use Rattle.limits.specs.Figure.{FigureAt, no_figure}
 use Rattle.limits.proofs.Breaks.{below-breaks, borne}
 use Rattle.limits.proofs.Places.{place_more}

@@ -1,4 +1,4 @@
-use Rattle.std.proofs.Common.{◌≡◌, ℕ, ◌<◌, ◌≤◌, Bool, true, false, length, sym, refl, ap, ◌∙◌, subst, zero-le, arith}
+use Rattle.std.proofs.Common.{◌≡◌, ℕ, ◌<◌, ◌≤◌, Bool, false, length, sym, refl, ap, ◌∙◌, subst, zero-le, arith}
 use Rattle.std.proofs.lemmas.Bool.{not-false}
 use Rattle.limits.specs.Figure.{breaks_with}
 use Rattle.limits.specs.Limit.{Borne, breaks}

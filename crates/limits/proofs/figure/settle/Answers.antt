@@ -1,8 +1,5 @@
-use Rattle.std.proofs.Common.{◌≡◌, ℕ, ◌<◌, ◌≤◌, true, length, sym, ap, ◌∙◌, arith}
+use Rattle.std.proofs.Common.{◌<◌, ◌≤◌, length, arith}
 use Rattle.std.proofs.lemmas.Bool.{not-false}
-use Rattle.limits.specs.Limit.{offer_at}
-use Rattle.limits.specs.Row.{amount, with_amount}
-use Rattle.limits.specs.declared.row.Row.{Row}
 use Rattle.limits.proofs.Records.{is_live, live_figure, when_live}
 use Rattle.limits.proofs.InBounds.{powers_at}
 use Rattle.limits.proofs.Settled.{live-bound, settled}

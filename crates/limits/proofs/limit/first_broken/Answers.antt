@@ -1,4 +1,4 @@
-use Rattle.std.proofs.Common.{◌≡◌, Option, sym, refl, ap, ◌∙◌, subst}
+use Rattle.std.proofs.Common.{Option, sym, refl, ap, ◌∙◌, subst}
 use Rattle.limits.specs.Limit.{Finds, breaks}
 use Rattle.limits.specs.Narrowing.{earlier_of}
 use Rattle.limits.specs.declared.limit.Limit.{Limit}

@@ -1,4 +1,4 @@
-use Rattle.std.proofs.Common.{◌≡◌, refl, arith, w64, SFits}
+use Rattle.std.proofs.Common.{refl, arith, w64, SFits}
 use Rattle.std.proofs.lemmas.Int.{ints}
 use Rattle.limits.proofs.Products.{product_back, back, sum_back, same_sides}
 use Rattle.limits.proofs.limit.upper_sides.Goals as goal

@@ -1,4 +1,4 @@
-use Rattle.std.proofs.Common.{◌≡◌, ℕ, ◌+◌, drop, sym, refl, ap, ◌∙◌, rules}
+use Rattle.std.proofs.Common.{ℕ, ◌+◌, drop, sym, refl, ap, ◌∙◌}
 use Rattle.numerals.specs.Numerals.{spelled_from}
 use Rattle.numerals.proofs.Spelled.{digit, fits, no_digit, overflow, whole_is}
 use Rattle.numerals.proofs.reading.whole.Goals as goal

@@ -1,4 +1,4 @@
-use Rattle.std.proofs.Common.{◌≡◌, sym, arith, rules}
+use Rattle.std.proofs.Common.{sym, arith}
 use Rattle.std.proofs.lemmas.Int.{ints}
 use Rattle.fcas.proofs.InRange.{parts, ramp_in_range}
 use Rattle.fcas.proofs.reading.CheckedReading.new.Goals as goal

@@ -1,4 +1,4 @@
-use Rattle.std.proofs.Common.{◌≡◌, ◌≤◌, length, sym, arith, rules}
+use Rattle.std.proofs.Common.{◌≤◌, length, sym, arith, rules}
 use Rattle.std.proofs.lemmas.List.{get_or_past}
 use Rattle.limits.proofs.InBounds.{none_above_at}
 use Rattle.limits.proofs.row.CheckedRow.amount.Goals as goal

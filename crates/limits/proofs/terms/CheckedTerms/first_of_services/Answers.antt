@@ -1,4 +1,4 @@
-use Rattle.std.proofs.Common.{◌≡◌, sym, arith, rules}
+use Rattle.std.proofs.Common.{sym, arith}
 use Rattle.limits.specs.declared.limit.Limit.TheVariants.{Availability}
 use Rattle.limits.proofs.Orders.{below_more, place_of}
 use Rattle.limits.proofs.terms.CheckedTerms.first_of_services.Goals as goal

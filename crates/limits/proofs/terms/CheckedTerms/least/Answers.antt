@@ -1,4 +1,4 @@
-use Rattle.std.proofs.Common.{◌≡◌, ◌+◌, ◌*◌, ◌<◌, length, arith, rules}
+use Rattle.std.proofs.Common.{◌≡◌, ◌*◌, ◌<◌, length, arith}
 use Rattle.limits.specs.declared.limit.Limit.TheVariants.{Availability}
 use Rattle.limits.proofs.Narrow.{at-service, at-rise, held_place, least_at}
 use Rattle.limits.proofs.terms.CheckedTerms.least.Goals as goal

@@ -1,4 +1,4 @@
-use Rattle.std.proofs.Common.{◌≡◌, ℕ, ◌+◌, ◌*◌, ◌<◌, Bool, false, length, get_or, subst, arith}
+use Rattle.std.proofs.Common.{◌≡◌, ℕ, ◌+◌, ◌*◌, ◌<◌, false, length, get_or, subst, arith}
 use Rattle.limits.specs.Limit.{exceeded, sides_of}
 use Rattle.limits.specs.Narrowing.{Below, Held, cap_by, coefficient_of, exceeded_with, narrowed_to, no_best}
 use Rattle.limits.specs.Row.{amount}

@@ -1,4 +1,4 @@
-use Rattle.std.proofs.Common.{◌≡◌, ℕ, ◌+◌, ◌*◌, ◌<◌, length, get_or}
+use Rattle.std.proofs.Common.{ℕ, ◌*◌, ◌<◌, get_or}
 use Rattle.limits.specs.Limit.{exceeded, sides_of}
 use Rattle.limits.specs.Narrowing.{Below, Held, exceeded_with, no_best}
 use Rattle.limits.proofs.terms.CheckedTerms.least_of_all.Given as goal

@@ -1,4 +1,4 @@
-use Rattle.std.proofs.Common.{◌≡◌, sym, ap, ◌∙◌}
+use Rattle.std.proofs.Common.{sym, ap, ◌∙◌}
 use Rattle.limits.specs.declared.terms.Offer.{Offer}
 use Rattle.limits.proofs.Joint.{lower_own, lower_joint}
 use Rattle.limits.proofs.terms.CheckedTerms.narrow_lower.Goals as goal

@@ -1,4 +1,4 @@
-use Rattle.std.proofs.Common.{◌≡◌, sym, ap, ◌∙◌}
+use Rattle.std.proofs.Common.{sym, ap, ◌∙◌}
 use Rattle.limits.specs.declared.terms.Offer.{Offer}
 use Rattle.limits.proofs.Joint.{upper_own, upper_joint}
 use Rattle.limits.proofs.terms.CheckedTerms.narrow_upper.Goals as goal

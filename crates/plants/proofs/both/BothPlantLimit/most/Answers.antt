@@ -1,4 +1,4 @@
-use Rattle.std.proofs.Common.{ℕ, refl}
+use Rattle.std.proofs.Common.{refl}
 use Rattle.limits.specs.Row.{with_amount}
 use Rattle.plants.specs.Amounts.{falls}
 use Rattle.plants.proofs.Answered.{both_most}

@@ -1,4 +1,4 @@
-use Rattle.std.proofs.Common.{◌≡◌, true, sym, refl, ap}
+use Rattle.std.proofs.Common.{true, sym, refl, ap}
 use Rattle.limits.specs.Row.{with_amount}
 use Rattle.plants.specs.Choice.{choice_allows}
 use Rattle.plants.specs.declared.choice.PlantChoice.{PlantChoice}

@@ -1,4 +1,4 @@
-use Rattle.std.proofs.Common.{◌≡◌, ◌≤◌, length, sym, refl, arith, rules}
+use Rattle.std.proofs.Common.{◌≡◌, ◌≤◌, length, refl, arith, rules}
 use Rattle.plants.specs.GovernorShare.{lowers, raises}
 use Rattle.plants.proofs.Answered.{greatest_same}
 use Rattle.plants.specs.Shares.{lower_left, raise_left}
