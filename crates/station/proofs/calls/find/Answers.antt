@@ -10,8 +10,8 @@ returns-then-numbers-from c = ap (option_map plain) (other-station c.args.number
 pub returns-then-numbers-gt23 : goal.returns-then-numbers-gt23
 returns-then-numbers-gt23 c = ap (option_map plain) (no_unit c.args.number c.args.rows.now c.args.pass.now.numbers (omega (arith, c.told-rows)))
 
-pub returns-then-not-is-under : goal.returns-then-not-is-under
-returns-then-not-is-under c = ap (option_map plain) (other-serial c.args.number c.args.rows.now c.args.pass.now.numbers c.index-rows-numbers.result (omega (arith, c.told-rows)) (sym c.if-not-is-under.ensures))
+pub returns-then-not-is_under : goal.returns-then-not-is_under
+returns-then-not-is_under c = ap (option_map plain) (other-serial c.args.number c.args.rows.now c.args.pass.now.numbers c.index-rows-numbers.result (omega (arith, c.told-rows)) (sym c.if-not-is_under.ensures))
 
 pub returns : goal.returns
-returns c = (known c.args.number c.args.rows.now c.args.pass.now.numbers c.index-rows-numbers.result (omega (arith, c.told-rows)) (c.if-numbers-from.false ∙ c.from.ensures) (sym c.if-not-is-under.ensures), (refl, omega (arith, c.told-rows)))
+returns c = (known c.args.number c.args.rows.now c.args.pass.now.numbers c.index-rows-numbers.result (omega (arith, c.told-rows)) (c.if-numbers-from.false ∙ c.from.ensures) (sym c.if-not-is_under.ensures), (refl, omega (arith, c.told-rows)))

@@ -3,17 +3,23 @@ use Rattle.std.proofs.lemmas.Bool.{eqb-false, eqb-true}
 use Rattle.station.proofs.Opens.{all_pass, is-opened, no-energy, no-serial, not-forecast}
 use Rattle.station.proofs.row.UnitRow.open.Goals as goal
 
-pub returns-in-err-check-forecast : goal.returns-in-err-check-forecast
-returns-in-err-check-forecast c = not-forecast c.args.self.now c.in-ok-state.state c.args.reading.now.measured c.args.next c.in-ok-state.ensures c.from-residual-in-err-check-forecast.result _ c.from-residual-in-err-check-forecast.ensures.1 c.in-err-check-forecast.ensures.value
+pub returns-in_err-check_forecast : goal.returns-in_err-check_forecast
+returns-in_err-check_forecast c = not-forecast c.args.self.now c.in_ok-state.state c.args.reading.now.measured c.args.next c.in_ok-state.ensures c.from_residual-in_err-check_forecast.result _ c.from_residual-in_err-check_forecast.ensures.1 c.in_err-check_forecast.ensures.value
 
-pub returns-then-is-last : goal.returns-then-is-last
-returns-then-is-last c = no-serial c.args.self.now c.in-ok-state.state c.args.reading.now.measured c.args.next c.in-ok-state.ensures (eqb-true c.args.next 18446744073709551615 (sym c.if-is-last.ensures)) c.in-ok-check-forecast.ensures.value.0
+pub returns-then-is_last : goal.returns-then-is_last
+returns-then-is_last c = no-serial c.args.self.now c.in_ok-state.state c.args.reading.now.measured c.args.next c.in_ok-state.ensures (eqb-true c.args.next 18446744073709551615 (sym c.if-is_last.ensures)) c.in_ok-check_forecast.ensures.value.0
 
-pub invariant-of-self : goal.invariant-of-self
-invariant-of-self c = (c.args.self.now.ten_bids, (refl, (no-energy c.args.self.now c.in-ok-state.state c.args.reading.now.measured c.args.next c.in-ok-state.ensures, (refl, ((λ _. ∣ c.new-self.ensures.value ∣₁), tt)))))
+pub invariant_of-self : goal.invariant_of-self
+invariant_of-self c = record {
+  ten_bids = c.args.self.now.ten_bids;
+  ten_amounts = refl;
+  energy_in_range = no-energy c.args.self.now c.in_ok-state.state c.args.reading.now.measured c.args.next c.in_ok-state.ensures;
+  amounts_in_range = refl;
+  fixed = λ _. ∣ c.new-self.ensures.value ∣₁;
+}
 
 pub returns : goal.returns
 returns c = (
-  all_pass c.args.self.now c.in-ok-state.state c.args.reading.now.measured c.args.next c.in-ok-state.ensures (eqb-false c.args.next 18446744073709551615 (sym c.if-is-last.ensures)) c.in-ok-check-forecast.ensures.value.0,
-  is-opened c.args.self.now c.in-ok-state.state c.args.reading.now.measured c.args.next c.in-ok-state.ensures,
+  all_pass c.args.self.now c.in_ok-state.state c.args.reading.now.measured c.args.next c.in_ok-state.ensures (eqb-false c.args.next 18446744073709551615 (sym c.if-is_last.ensures)) c.in_ok-check_forecast.ensures.value.0,
+  is-opened c.args.self.now c.in_ok-state.state c.args.reading.now.measured c.args.next c.in_ok-state.ensures,
 )

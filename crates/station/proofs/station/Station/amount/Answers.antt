@@ -9,18 +9,18 @@ use Rattle.station.proofs.ByPass.{amount-turn, unknown-amount}
 use Rattle.station.proofs.Turns.{with_rows}
 use Rattle.station.proofs.station.Station.amount.Goals as goal
 
-pub returns-in-err-unit : goal.returns-in-err-unit
-returns-in-err-unit g c = record {
-  turn = unknown-amount g.P.PlantLimit.allowed c.args.self.now c.args.pass.now.numbers c.args.service c.args.amount c.from-residual-in-err-unit.result c.in-err-unit.field-0.0 c.in-ok-service.ensures.0 c.in-ok-check-power.ensures.0 c.from-residual-in-err-unit.ensures.1 c.in-err-unit.ensures;
+pub returns-in_err-unit : goal.returns-in_err-unit
+returns-in_err-unit g c = record {
+  turn = unknown-amount g.P.PlantLimit.allowed c.args.self.now c.args.pass.now.numbers c.args.service c.args.amount c.from_residual-in_err-unit.result c.in_err-unit.field-0.0 c.in_ok-service.ensures.0 c.in_ok-check_power.ensures.0 c.from_residual-in_err-unit.ensures.1 c.in_err-unit.ensures;
   pass_kept = refl;
 }
 
 pub returns : goal.returns
 returns g c =
-    let known = subst (λ (n : ℕ). first_of (service_faults n) ≡ None) (sym c.in-ok-service.ensures.1) c.in-ok-service.ensures.0 in
+    let known = subst (λ (n : ℕ). first_of (service_faults n) ≡ None) (sym c.in_ok-service.ensures.1) c.in_ok-service.ensures.0 in
     record {
-      turn = subst (λ (n : ℕ). Turn g.P.PlantLimit.allowed c.args.self.now (Amount c.args.pass.now.numbers n c.args.amount) (done c.amount.result) (with_rows c.args.self.now (set c.args.self.now.rows c.in-ok-unit.unit c.amount.new.self))) c.in-ok-service.ensures.1
-          (amount-turn g.P.PlantLimit.allowed c.args.self.now c.args.pass.now.numbers c.in-ok-unit.unit c.in-ok-unit.ensures.1.0 c.index-self-unit.result c.in-ok-unit.ensures.1.1 c.in-ok-unit.ensures.0
-          c.in-ok-service.service.number c.args.amount c.amount.new.self c.amount.result known c.in-ok-check-power.ensures.0 c.amount.ensures);
+      turn = subst (λ (n : ℕ). Turn g.P.PlantLimit.allowed c.args.self.now (Amount c.args.pass.now.numbers n c.args.amount) (done c.amount.result) (with_rows c.args.self.now (set c.args.self.now.rows c.in_ok-unit.unit c.amount.new.self))) c.in_ok-service.ensures.1
+          (amount-turn g.P.PlantLimit.allowed c.args.self.now c.args.pass.now.numbers c.in_ok-unit.unit c.in_ok-unit.ensures.1.0 c.index-self-unit.result c.in_ok-unit.ensures.1.1 c.in_ok-unit.ensures.0
+          c.in_ok-service.service.number c.args.amount c.amount.new.self c.amount.result known c.in_ok-check_power.ensures.0 c.amount.ensures);
       pass_kept = refl;
     }

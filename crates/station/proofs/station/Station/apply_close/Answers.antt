@@ -16,5 +16,5 @@ returns-in-Ok g c =
 
 pub returns-in-Err : goal.returns-in-Err
 returns-in-Err g c =
-    subst (λ (numbers : PassNumbers). Turn g.P.PlantLimit.allowed c.args.self.now (Close c.args.numbers c.args.places) (Returned c.in-Err.field-0.refusal numbers) c.close.new.self) (sym c.take-apart.ensures)
+    subst (λ (numbers : PassNumbers). Turn g.P.PlantLimit.allowed c.args.self.now (Close c.args.numbers c.args.places) (Returned c.in-Err.field-0.refusal numbers) c.close.new.self) (sym c.take_apart.ensures)
     (same_places g.P.PlantLimit.allowed c.args.self.now c.args.numbers 10 c.args.places (Returned c.in-Err.field-0.refusal c.in-Err.field-0.pass.numbers) c.close.new.self (sym (le-ltb c.args.places 10 c.if-places-lt10.false)) c.in-Err.ensures.turn)

@@ -11,4 +11,4 @@ returns g c =
     let within : c.args.unit < length c.args.self.now.rows = search rules in
     by-unit g.P.PlantLimit.allowed c.args.self.now c.args.unit c.index-self-unit.result c.end.new.self within
     (Lapse c.args.unit) (unit_faults c.args.unit) (λ entry. (22, not (is_some entry)) ∷ (27, not (is_open entry)) ∷ []) (option_map (with_interval None))
-    c.in-ok-check-unit.ensures.0 refl refl c.end.result (λ _. refl) refl refl c.end.ensures
+    c.in_ok-check_unit.ensures.0 refl refl c.end.result (λ _. refl) refl refl c.end.ensures

@@ -12,12 +12,12 @@ use Rattle.station.proofs.station.Station.probe.Goals as goal
 
 pub returns : goal.returns
 returns g c =
-    let known = subst (λ (n : ℕ). first_of (service_faults n) ≡ None) (sym c.in-ok-service.ensures.1) c.in-ok-service.ensures.0 in
+    let known = subst (λ (n : ℕ). first_of (service_faults n) ≡ None) (sym c.in_ok-service.ensures.1) c.in_ok-service.ensures.0 in
     record {
-      turn = subst (λ (n : ℕ). Turn g.P.PlantLimit.allowed c.args.self.now (Probe c.args.pass.now.numbers n c.args.energy) (Probed c.probe.result) c.args.self.now) c.in-ok-service.ensures.1
-          (probe-turn g.P.PlantLimit.allowed c.args.self.now c.args.pass.now.numbers c.in-ok-unit.unit c.in-ok-unit.ensures.1.0 c.row-of.result.now c.in-ok-unit.ensures.1.1 c.in-ok-unit.ensures.0
-          c.in-ok-service.service.number c.args.energy c.probe.result known c.in-ok-check-power.ensures.0
-          (subst (λ (row : UnitRow). is_open (entry_of row) ≡ true → ProbedIn (g.P.PlantLimit.allowed c.args.self.now.plant) c.in-ok-unit.unit c.in-ok-service.service.number c.args.energy (entry_of row) c.probe.result) c.row-of.ensures c.probe.ensures));
-      station-kept = refl;
+      turn = subst (λ (n : ℕ). Turn g.P.PlantLimit.allowed c.args.self.now (Probe c.args.pass.now.numbers n c.args.energy) (Probed c.probe.result) c.args.self.now) c.in_ok-service.ensures.1
+          (probe-turn g.P.PlantLimit.allowed c.args.self.now c.args.pass.now.numbers c.in_ok-unit.unit c.in_ok-unit.ensures.1.0 c.row_of.result.now c.in_ok-unit.ensures.1.1 c.in_ok-unit.ensures.0
+          c.in_ok-service.service.number c.args.energy c.probe.result known c.in_ok-check_power.ensures.0
+          (subst (λ (row : UnitRow). is_open (entry_of row) ≡ true → ProbedIn (g.P.PlantLimit.allowed c.args.self.now.plant) c.in_ok-unit.unit c.in_ok-service.service.number c.args.energy (entry_of row) c.probe.result) c.row_of.ensures c.probe.ensures));
+      station_kept = refl;
       pass_kept = refl;
     }

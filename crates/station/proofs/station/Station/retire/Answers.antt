@@ -10,4 +10,4 @@ returns g c =
     let within : c.args.unit < length c.args.self.now.rows = search rules in
     by-unit g.P.PlantLimit.allowed c.args.self.now c.args.unit c.index-self-unit.result c.retire.new.self within
     (Retire c.args.unit) (unit_faults c.args.unit) idle_faults (λ _. None)
-    c.in-ok-check-unit.ensures.0 refl refl c.retire.result (λ _. refl) refl refl c.retire.ensures
+    c.in_ok-check_unit.ensures.0 refl refl c.retire.result (λ _. refl) refl refl c.retire.ensures

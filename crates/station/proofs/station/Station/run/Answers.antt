@@ -7,8 +7,8 @@ use Rattle.station.proofs.station.Station.run.Goals as goal
 
 pub loop-call-init : goal.loop-call-init
 loop-call-init g c =
-    let empty : vec_items c.in-ok-answers.answers ≡ [] = c.in-ok-answers.ensures.items in
-    let none : length (vec_items c.in-ok-answers.answers) ≡ 0 = rw empty refl in (
+    let empty : vec_items c.in_ok-answers.answers ≡ [] = c.in_ok-answers.ensures.items in
+    let none : length (vec_items c.in_ok-answers.answers) ≡ 0 = rw empty refl in (
       zero-le,
       none,
       subst (λ (limit : g.row.P.Denot). Sound g.P.PlantLimit.allowed c.args.number c.args.first limit [] c.new-station.result) (sym c.new-station.ensures.made.plant) c.new-station.ensures.law,
@@ -34,5 +34,5 @@ returns g c =
         subst (λ (limit : g.row.P.Denot). Sound g.P.PlantLimit.allowed c.args.number c.args.first limit (upon [] c.args.calls.now (vec_items c.loop-call.answers)) c.loop-call.station) c.new-station.ensures.made.plant
             (subst (λ (calls : List Call). Sound g.P.PlantLimit.allowed c.args.number c.args.first c.new-station.result.plant (upon [] calls (vec_items c.loop-call.answers)) c.loop-call.station) all c.loop-call.invariant.2),
       );
-      calls-kept = refl;
+      calls_kept = refl;
     }

@@ -12,12 +12,12 @@ use Rattle.station.proofs.station.Station.trapezium.Goals as goal
 
 pub returns : goal.returns
 returns g c =
-    let known = subst (λ (n : ℕ). first_of (service_faults n) ≡ None) (sym c.in-ok-service.ensures.1) c.in-ok-service.ensures.0 in
+    let known = subst (λ (n : ℕ). first_of (service_faults n) ≡ None) (sym c.in_ok-service.ensures.1) c.in_ok-service.ensures.0 in
     record {
-      turn = subst (λ (n : ℕ). Turn g.P.PlantLimit.allowed c.args.self.now (TrapeziumCall c.args.pass.now.numbers n) (Scaled c.trapezium.result) c.args.self.now) c.in-ok-service.ensures.1
-          (trapezium-turn g.P.PlantLimit.allowed c.args.self.now c.args.pass.now.numbers c.in-ok-unit.unit c.in-ok-unit.ensures.1.0 c.row-of.result.now c.in-ok-unit.ensures.1.1 c.in-ok-unit.ensures.0
-          c.in-ok-service.service.number c.trapezium.result known
-          (subst (λ (row : UnitRow). is_open (entry_of row) ≡ true → c.trapezium.result ≡ trapezium_in c.in-ok-service.service.number (entry_of row)) c.row-of.ensures c.trapezium.ensures));
-      station-kept = refl;
+      turn = subst (λ (n : ℕ). Turn g.P.PlantLimit.allowed c.args.self.now (TrapeziumCall c.args.pass.now.numbers n) (Scaled c.trapezium.result) c.args.self.now) c.in_ok-service.ensures.1
+          (trapezium-turn g.P.PlantLimit.allowed c.args.self.now c.args.pass.now.numbers c.in_ok-unit.unit c.in_ok-unit.ensures.1.0 c.row_of.result.now c.in_ok-unit.ensures.1.1 c.in_ok-unit.ensures.0
+          c.in_ok-service.service.number c.trapezium.result known
+          (subst (λ (row : UnitRow). is_open (entry_of row) ≡ true → c.trapezium.result ≡ trapezium_in c.in_ok-service.service.number (entry_of row)) c.row_of.ensures c.trapezium.ensures));
+      station_kept = refl;
       pass_kept = refl;
     }
