@@ -3,14 +3,14 @@ use Rattle.std.proofs.Common.{◌≡◌, ℕ, zero, suc, Bool, true, false, cond
 use Rattle.std.specs.Option.{option_map}
 use Rattle.fcas.specs.Bid.{bid_faults}
 use Rattle.fcas.specs.Checks.{Finding, first_of}
-use Rattle.fcas.specs.Reading.{measured_of, reading_faults}
+use Rattle.fcas.specs.Reading.{measured_of}
 use Rattle.fcas.specs.Service.{service_faults}
 use Rattle.fcas.specs.declared.bid.Bid.{Bid}
 use Rattle.fcas.specs.declared.kind.Kind.{Kind}
 use Rattle.limits.specs.Limit.{Borne}
 use Rattle.limits.specs.declared.limit.Limit.{Limit}
 use Rattle.limits.specs.declared.row.Row.{Row}
-use Rattle.station.specs.Book.{Bears, Book, after, broken_by, checks, enter, kind_of, passes, some_breaks, unit_at, unit_faults, written}
+use Rattle.station.specs.Book.{Bears, Book, after, broken_by, checks, enter, passes, some_breaks, unit_at, unit_faults, written}
 use Rattle.station.specs.Entry.{BearsRow, Entry, Interval, bid_of, broken_at, broken_with, idle_faults, is_open, on_interval, opened, with_amount_of, with_bid, with_energy, with_interval}
 use Rattle.station.specs.Right.{Right, Settles, accepted}
 use Rattle.station.specs.Turn.{Rests}

@@ -8,15 +8,14 @@ use Rattle.fcas.specs.declared.trapezium.Trapezium.{Trapezium}
 use Rattle.limits.specs.Figure.{no_figure}
 use Rattle.limits.specs.declared.figure.Figure.{Figure}
 use Rattle.limits.specs.declared.row.Row.{Row}
-use Rattle.station.specs.Book.{Bears, Book, checks, energy_faults, pass_faults, passes, power_faults, some_breaks, unit_at, written}
+use Rattle.station.specs.Book.{Bears, checks, energy_faults, pass_faults, passes, power_faults, some_breaks, unit_at, written}
 use Rattle.station.specs.Entry.{BearsRow, Entry, FigureIn, ProbedIn, broken_at, broken_with, has_energy, is_live, is_open, kind_in, on_interval, trapezium_in, with_amount_of, with_energy, with_interval}
 use Rattle.station.specs.Lent.{Lent, Refuses, Tried, held_faults}
-use Rattle.states.specs.Refusal.{Told, plain, told}
-use Rattle.station.specs.Right.{accepted}
-use Rattle.station.specs.Turn.{Turn, closing, done, figured, probed_by, scaled}
+use Rattle.states.specs.Refusal.{plain, told}
+use Rattle.station.specs.Turn.{Turn, closing, done, figured}
 use Rattle.station.specs.View.{entry_of, view_of}
 use Rattle.station.specs.declared.call.Answer.{Answer}
-use Rattle.station.specs.declared.call.Answer.TheVariants.{Closed, Done, Probed, Refused, Returned, Figure as Figured, Trapezium as Scaled}
+use Rattle.station.specs.declared.call.Answer.TheVariants.{Closed, Done, Probed, Returned, Figure as Figured, Trapezium as Scaled}
 use Rattle.station.specs.declared.call.Call.TheVariants.{Energy, Amount, Figure as FigureCall, Probe, Trapezium as TrapeziumCall, Close, Abandon}
 use Rattle.station.specs.declared.pass.Pass.{Pass}
 use Rattle.station.specs.declared.pass.PassNumbers.{PassNumbers}
@@ -26,7 +25,7 @@ use Rattle.station.specs.declared.station.Station.{Station}
 use Rattle.station.proofs.Broken.{amount-shows, energy-shows}
 use Rattle.station.proofs.Firsts.{first_skip, first_stop}
 use Rattle.station.proofs.Passes.{known_open}
-use Rattle.station.proofs.Turns.{by-refusal, by-trial, heeded, lent, lent_same, lent_view, none_breaks, turned-away, under_rests, unit-is, with_rows}
+use Rattle.station.proofs.Turns.{by-refusal, by-trial, heeded, lent, lent_view, none_breaks, turned-away, under_rests, unit-is, with_rows}
 
 pub same_told : {X : Type 0} (r : Result X Refusal) (refusal : Refusal) → IsErrAnd r (λ e. e ≡ refusal) → IsErrAnd r (λ e. told e ≡ told refusal)
 same_told (Ok x) refusal e = e

@@ -3,7 +3,7 @@ use Rattle.std.proofs.Common.{◌≡◌, ℕ, Bool, true, false, cond, List, [],
 use Rattle.std.specs.Option.{option_map}
 use Rattle.fcas.specs.Checks.{Finding, first_of}
 use Rattle.station.specs.Entry.{Entry}
-use Rattle.station.specs.Lent.{Lent, Refuses}
+use Rattle.station.specs.Lent.{Lent}
 use Rattle.states.specs.Refusal.{Told, plain, told}
 use Rattle.states.specs.declared.refusal.Refusal.{Refusal}
 use Rattle.station.specs.declared.row.UnitRow.{UnitRow}

@@ -23,7 +23,7 @@ use Rattle.station.specs.declared.station.Station.{Station}
 use Rattle.station.proofs.ByPass.{same_told}
 use Rattle.station.proofs.Firsts.{first_skip, first_stop}
 use Rattle.station.proofs.Opens.{faults_of}
-use Rattle.station.proofs.Turns.{by-refusal, heeded, lent, lent_same, lent_view, none_breaks, unit-is, with_rows}
+use Rattle.station.proofs.Turns.{by-refusal, heeded, lent_same, lent_view, none_breaks, unit-is, with_rows}
 
 module _ {P : Type 0} (allowed : P → Row → Bool) (s : Station P) (u : ℕ) (reading : Reading) (number : first_of (unit_faults u) ≡ None) where
   abbrev rest : List Finding

@@ -1,5 +1,5 @@
 -- Rows read as entries.
-use Rattle.std.proofs.Common.{◌≡◌, ℕ, zero, suc, ◌<◌, Bool, true, false, List, [], ◌∷◌, length, get_or, set, is_some, Some, None, Option, sym, refl, ap, ◌∙◌, subst, arith}
+use Rattle.std.proofs.Common.{◌≡◌, ℕ, zero, suc, ◌<◌, List, [], ◌∷◌, length, get_or, set, None, Option, refl, ap, arith}
 use Rattle.std.specs.Option.{option_map}
 use Rattle.fcas.specs.declared.bid.Bid.{Bid}
 use Rattle.fcas.specs.declared.bid.CheckedBid.{CheckedBid}

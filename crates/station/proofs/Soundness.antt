@@ -1,10 +1,10 @@
 -- Every past is sound.
-use Rattle.std.proofs.Common.{◌≡◌, ℕ, zero, suc, ◌<◌, Bool, List, [], ◌∷◌, ◌++◌, length, get_or, take, replicate, Some, None, Option, sym, refl, ap, ◌∙◌, subst, arith}
+use Rattle.std.proofs.Common.{◌≡◌, ℕ, zero, suc, ◌<◌, Bool, List, [], ◌∷◌, ◌++◌, length, get_or, take, replicate, None, Option, sym, refl, ap, ◌∙◌, subst, arith}
 use Rattle.limits.specs.declared.row.Row.{Row}
 use Rattle.station.specs.Book.{Bears, Book, after, blank, book_after}
 use Rattle.station.specs.Entry.{BearsRow, Entry}
 use Rattle.station.specs.Right.{Right}
-use Rattle.station.specs.Sound.{Follows, Lawful, Led, Made, Past, Sound, calls_of, upon}
+use Rattle.station.specs.Sound.{Follows, Lawful, Made, Past, Sound, calls_of, upon}
 use Rattle.station.specs.Turn.{Turn}
 use Rattle.station.specs.View.{entries_of, entry_of, view_of}
 use Rattle.station.specs.declared.call.Answer.{Answer}

@@ -1,5 +1,5 @@
 -- A call that is refused, and one that is accepted.
-use Rattle.std.proofs.Common.{◌≡◌, ℕ, zero, suc, ◌<◌, Bool, true, false, cond, not, ◌&&◌, ◌||◌, List, [], ◌∷◌, ◌++◌, length, get_or, set, is_some, IsErrAnd, Some, None, Ok, Err, Option, Result, sym, refl, ap, ◌∙◌, subst, arith}
+use Rattle.std.proofs.Common.{◌≡◌, ℕ, zero, suc, ◌<◌, Bool, true, false, List, [], ◌∷◌, ◌++◌, length, get_or, set, is_some, IsErrAnd, Some, None, Ok, Err, Option, Result, sym, refl, ap, ◌∙◌, subst, arith}
 use lib.Seq.{set-get_or}
 use Rattle.std.specs.Option.{option_map}
 use Rattle.fcas.specs.Checks.{Finding, first_of}
@@ -9,11 +9,11 @@ use Rattle.fcas.specs.declared.kind.Kind.TheVariants.{Generator, SemiScheduled, 
 use Rattle.limits.specs.declared.limit.Limit.{Limit}
 use Rattle.limits.specs.declared.limit.Limit.TheVariants.{Availability, Upper, Lower, RampUp, RampDown, Plant}
 use Rattle.limits.specs.declared.row.Row.{Row}
-use Rattle.station.specs.Book.{Book, after, broken_by, checks, enter, kind_of, passes, some_below, some_breaks, unit_at, written}
+use Rattle.station.specs.Book.{broken_by, checks, enter, kind_of, passes, some_below, some_breaks, unit_at, written}
 use Rattle.station.specs.Entry.{Entry, kind_in}
 use Rattle.station.specs.Lent.{Declines, Lent, Tried}
 use Rattle.states.specs.Refusal.{Told, plain, told}
-use Rattle.station.specs.Right.{Gives, Right, Settles, accepted, handed_back, pass_in, refusal_in}
+use Rattle.station.specs.Right.{Gives, Settles, accepted, handed_back, pass_in, refusal_in}
 use Rattle.station.specs.Turn.{Rests, Turn, done}
 use Rattle.station.specs.View.{entries_of, entry_of, view_of}
 use Rattle.station.specs.declared.call.Answer.{Answer}

@@ -1,5 +1,5 @@
 -- The book of a station: what its past comes to, by the arguments of the making and of the calls alone.
-use Rattle.std.specs.Prelude.{ℕ, zero, suc, ◌+◌, Bool, true, false, cond, not, ◌&&◌, ◌||◌, List, [], ◌∷◌, ◌++◌, replicate, is_some, Some, None, Option, ◌==◌, nat_lt, slice_index_or, slice_set}
+use Rattle.std.specs.Prelude.{ℕ, zero, suc, ◌+◌, Bool, false, cond, not, ◌&&◌, ◌||◌, List, [], ◌∷◌, ◌++◌, replicate, is_some, Some, None, Option, ◌==◌, nat_lt, slice_index_or, slice_set}
 use Rattle.std.specs.Option.{option_map}
 use Rattle.fcas.specs.Bid.{bid_faults}
 use Rattle.fcas.specs.Checks.{Finding, first_of}

@@ -1,5 +1,5 @@
 -- What the book has of one unit: its kind and bids, and of an open interval the reading, the serial, the energy and the amounts.
-use Rattle.std.specs.Prelude.{◌≡◌, ℕ, Bool, true, false, not, List, [], ◌∷◌, set, replicate, pos, is_some, Some, None, Option, nat_eq, slice_index_or, slice_set}
+use Rattle.std.specs.Prelude.{◌≡◌, ℕ, Bool, true, false, not, List, [], ◌∷◌, replicate, pos, is_some, Some, None, Option, nat_eq, slice_index_or, slice_set}
 use Rattle.std.specs.Option.{option_map, unwrap_or}
 use Rattle.fcas.specs.Checks.{Finding}
 use Rattle.fcas.specs.Reading.{forecast_faults}

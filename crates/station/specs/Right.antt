@@ -1,5 +1,5 @@
 -- Which answer to a call is right, by the book as it stands when the call comes.
-use Rattle.std.specs.Prelude.{◌≡◌, ℕ, ◌<◌, Bool, true, false, not, List, length, is_some, IsSomeAnd, Some, None, Option, slice_index_or}
+use Rattle.std.specs.Prelude.{◌≡◌, ℕ, ◌<◌, Bool, not, List, length, is_some, IsSomeAnd, Some, None, Option, slice_index_or}
 use Rattle.fcas.specs.Checks.{first_of}
 use Rattle.fcas.specs.declared.kind.Kind.{Kind}
 use Rattle.limits.specs.Figure.{no_figure}

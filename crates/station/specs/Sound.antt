@@ -1,7 +1,7 @@
 -- The law over runs: what holds of a station after any past whatever, under any plant limit.
 use Rattle.std.specs.Prelude.{◌≡◌, ℕ, Bool, List, [], ◌∷◌}
 use Rattle.limits.specs.declared.row.Row.{Row}
-use Rattle.station.specs.Book.{Bears, Book, after, blank, book_after}
+use Rattle.station.specs.Book.{Bears, Book, blank, book_after}
 use Rattle.station.specs.Right.{Right}
 use Rattle.station.specs.Turn.{Turn}
 use Rattle.station.specs.View.{view_of}

@@ -1,4 +1,4 @@
-use Rattle.std.proofs.Common.{Bool, ap, arith}
+use Rattle.std.proofs.Common.{ap, arith}
 use Rattle.std.proofs.lemmas.List.{get_or_default}
 use Rattle.limits.specs.Terms.{no_offer}
 use Rattle.limits.specs.declared.terms.Offer.{Offer}

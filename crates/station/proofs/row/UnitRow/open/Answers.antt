@@ -1,4 +1,4 @@
-use Rattle.std.proofs.Common.{sym, refl, rules}
+use Rattle.std.proofs.Common.{sym, refl}
 use Rattle.std.proofs.lemmas.Bool.{eqb-false, eqb-true}
 use Rattle.station.proofs.Opens.{all_pass, is-opened, no-energy, no-serial, not-forecast}
 use Rattle.station.proofs.row.UnitRow.open.Goals as goal

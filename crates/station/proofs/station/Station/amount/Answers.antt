@@ -1,8 +1,6 @@
-use Rattle.std.proofs.Common.{◌≡◌, ℕ, [], ◌∷◌, ◌++◌, set, None, sym, refl, ap, ◌∙◌, subst}
-use Rattle.std.specs.Option.{option_map}
+use Rattle.std.proofs.Common.{◌≡◌, ℕ, set, None, sym, refl, subst}
 use Rattle.fcas.specs.Checks.{first_of}
 use Rattle.fcas.specs.Service.{service_faults}
-use Rattle.states.specs.Refusal.{plain, told}
 use Rattle.station.specs.Turn.{Turn, done}
 use Rattle.station.specs.declared.call.Call.TheVariants.{Amount}
 use Rattle.station.proofs.ByPass.{amount-turn, unknown-amount}

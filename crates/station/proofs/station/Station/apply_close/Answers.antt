@@ -1,4 +1,4 @@
-use Rattle.std.proofs.Common.{◌≡◌, ◌≤◌, List, length, take, sym, refl, ap, subst, arith, take_all, rules}
+use Rattle.std.proofs.Common.{◌≤◌, List, length, take, sym, subst, take_all, rules}
 use Rattle.std.proofs.lemmas.Bool.{le-ltb}
 use Rattle.limits.specs.declared.figure.Figure.{Figure}
 use Rattle.station.specs.Turn.{Turn}

@@ -1,8 +1,8 @@
-use Rattle.std.proofs.Common.{◌<◌, [], ◌∷◌, ◌++◌, length, is_some, Some, Option, refl, ap, ◌∙◌, rules}
+use Rattle.std.proofs.Common.{◌<◌, [], ◌∷◌, ◌++◌, length, is_some, Some, refl, ap, ◌∙◌, rules}
 use Rattle.fcas.specs.Kind.{kind_faults}
 use Rattle.fcas.specs.declared.kind.Kind.{Kind}
-use Rattle.station.specs.Book.{Book, enter, unit_faults}
-use Rattle.station.specs.Entry.{Entry, enrolled}
+use Rattle.station.specs.Book.{enter, unit_faults}
+use Rattle.station.specs.Entry.{enrolled}
 use Rattle.station.specs.View.{view_of}
 use Rattle.station.specs.declared.call.Call.TheVariants.{Enrol}
 use Rattle.station.proofs.Firsts.{first_skip}

@@ -7,7 +7,6 @@ use Rattle.station.specs.Lent.{Refuses, held_faults}
 use Rattle.station.specs.Turn.{Turn}
 use Rattle.station.specs.View.{entry_of}
 use Rattle.station.specs.declared.row.UnitRow.{UnitRow}
-use Rattle.station.specs.Turn.{figured}
 use Rattle.station.specs.declared.call.Answer.TheVariants.{Figure as Figured}
 use Rattle.station.specs.declared.call.Call.TheVariants.{Figure as FigureCall}
 use Rattle.station.proofs.ByPass.{figure-refused, figure-turn, unknown-figure}

@@ -1,12 +1,9 @@
-use Rattle.std.proofs.Common.{◌≡◌, ◌≤◌, ltb, List, [], ◌∷◌, length, drop, set, None, sym, refl, subst, rules}
-use Rattle.std.proofs.lemmas.Bool.{le-ltb}
-use Rattle.fcas.specs.Checks.{first_of}
+use Rattle.std.proofs.Common.{List, length, set, sym, refl, subst}
 use Rattle.limits.specs.declared.figure.Figure.{Figure}
-use Rattle.station.specs.Turn.{Turn, closing}
+use Rattle.station.specs.Turn.{Turn}
 use Rattle.station.specs.declared.call.Answer.{Answer}
 use Rattle.station.specs.declared.call.Answer.TheVariants.{Closed}
 use Rattle.station.specs.declared.call.Call.TheVariants.{Close}
-use Rattle.station.specs.declared.station.Station.{Station}
 use Rattle.station.proofs.ByPass.{close-refused, close-turn, closing_err, enough, err_case, filled, unknown-close}
 use Rattle.station.proofs.Turns.{lent_same, with_rows}
 use Rattle.station.proofs.station.Station.try_close.Goals as goal
