@@ -4,7 +4,7 @@
 usage: python3 tools/respell.py [--dry]     at the top of the repository, once, after the kit's own porting script
 
 It takes the names that are defined at the head of a line, or as a field of a record, in the .antt files of specs/ and
-proofs/; the answers to goals keep theirs, since the toolchain makes those. It writes them anew in .antt and .rt files, in
+proofs/, or within a block; the answers to goals keep theirs, since the toolchain makes those. It writes them anew in .antt and .rt files, in
 must-fail edits and in the documents. Functions of src/, strings, inputs and outputs keep their names.
 """
 import os
@@ -39,6 +39,8 @@ KIT = {
     "rowAt": "row_at", "unitAt": "unit_at", "viewOf": "view_of", "wholeOf": "whole_of",
 }
 HEAD = re.compile(r"^(?:abbrev pub|unfoldable pub|abbrev|unfoldable|pub record|record|pub data|data|pub ruleset|ruleset|pub)?\s*([^\s:{}()\[\].,;|«»]+) (?::|\(.*\) :) ?(.*)$")
+# A lemma or a definition in a block of its own, with names that today's spelling would not have.
+INNER = re.compile(r"^ +(?:pub |abbrev pub |abbrev |unfoldable pub )?([a-z0-9']+(?:-[a-z0-9]+)+|[a-z]+[A-Z][A-Za-z]*) :(?: |$)")
 FIELD = re.compile(r"^  (?:pub )?([^\s:{}()\[\].,;|«»]+) : ")
 LETTER = r"[\w'\u2019\u2032\u2080-\u209f\u2124\u2115]"
 
@@ -61,7 +63,7 @@ def snake(name):
 
 
 def own():
-    found = {}
+    found, fields = {}, set()
     for path in files(".antt"):
         in_record = False
         for line in open(path, encoding="utf-8"):
@@ -70,17 +72,24 @@ def own():
                 continue
             if line[:1] not in (" ", "\n", "-"):
                 in_record = False
+            inner = INNER.match(line)
+            if inner and not in_record:
+                found.setdefault(inner[1], path)
+                continue
             m = FIELD.match(line) if in_record else HEAD.match(line)
             if not m or line.startswith(("use ", "--", "mod ", "pub mod ", "unfolding")):
                 continue
             if not in_record and re.match(r"(goal|given|need)\.", m[2].strip()):
                 continue
             found.setdefault(m[1], path)
-    return found
+            if in_record:
+                fields.add(m[1])
+    return found, fields
 
 
 def main(dry):
-    names = {n: snake(n) for n in own()}
+    found, fields = own()
+    names = {n: snake(n) for n in found}
     names = {a: b for a, b in names.items() if a != b}
     taken = {}
     for a, b in names.items():
@@ -118,6 +127,9 @@ def main(dry):
             n = m[1]
             if n in local:
                 return local[n]
+            if "-" in n and n not in fields and m.string[m.start() - 1 : m.start()] == ".":
+                # A step of the code, which the toolchain names.
+                return n
             if n in FIELDS and m.string[m.start() - 1 : m.start()] == ".":
                 return FIELDS[n]
             return names[n]

@@ -1,6 +1,5 @@
 // Worked rows: their figures, and the limits that hold them down.
 ghost use Rattle.std.specs.Prelude.{false};
-ghost use Rattle.std.proofs.Common.{rules};
 
 use fcas::{Bid, CheckedBid, CheckedReading, Kind, Reading, Refusal, Service};
 use limits::{
@@ -16,7 +15,7 @@ struct Shut;
 impl PlantLimit for Shut {
     ghost allowed = { λ _ _. false };
 
-    ghost lowering = { Prim.search rules };
+    ghost lowering = { λ _ _ _ _ _ h. h };
 
     fn allows(&self, _row: &Row) -> bool {
         false

@@ -70,13 +70,13 @@ rounded_up z d = neg_ℤ (rounded_down (neg_ℤ z) d)
 
 -- The high breakpoint, for a bid's maximum availability and upper run and the effective enablement maximum and maximum availability: the enablement maximum less the slope times the availability, rounded down. It may lie below zero. A bid of no availability has no slope, and the two are equal.
 abbrev pub effective_high_breakpoint : ℕ → ℕ → ℕ → ℕ → ℤ
-effective_high_breakpoint bidAvailability run enablement availability =
-    cond (bidAvailability == 0) (pos enablement) (rounded_down (pos bidAvailability *ℤ pos enablement -ℤ pos run *ℤ pos availability) bidAvailability)
+effective_high_breakpoint bid_availability run enablement availability =
+    cond (bid_availability == 0) (pos enablement) (rounded_down (pos bid_availability *ℤ pos enablement -ℤ pos run *ℤ pos availability) bid_availability)
 
 -- The low breakpoint, likewise: the enablement minimum and the lower slope times the availability, rounded up.
 abbrev pub effective_low_breakpoint : ℕ → ℕ → ℕ → ℕ → ℤ
-effective_low_breakpoint bidAvailability run enablement availability =
-    cond (bidAvailability == 0) (pos enablement) (rounded_up (pos bidAvailability *ℤ pos enablement +ℤ pos run *ℤ pos availability) bidAvailability)
+effective_low_breakpoint bid_availability run enablement availability =
+    cond (bid_availability == 0) (pos enablement) (rounded_up (pos bid_availability *ℤ pos enablement +ℤ pos run *ℤ pos availability) bid_availability)
 
 -- The five effective numbers of a service.
 abbrev pub trapezium_of : Kind → ℕ → Bid → Measured → Trapezium

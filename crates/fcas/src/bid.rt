@@ -1,6 +1,6 @@
 // A bid for one service: a trapezium and ten price bands.
 ghost use Rattle.std.specs.Prelude.{◌≡◌, ◌≤◌, false, nat_lt};
-ghost use Rattle.fcas.specs.Bid.{bid_faults, falls as numbers-fall, numbers_of, some_above};
+ghost use Rattle.fcas.specs.Bid.{bid_faults, falls as numbers_fall, numbers_of, some_above};
 ghost use Rattle.fcas.specs.Checks.{Checked};
 
 use crate::refusal::Refusal;
@@ -67,7 +67,7 @@ impl Bid {
 
     // Whether one of the first four numbers is below the one before it.
     fn falls(&self) -> bool
-        ensures { result ≡ numbers-fall self.now }
+        ensures { result ≡ numbers_fall self.now }
     {
         (self.low_breakpoint < self.enablement_min)
             | (self.high_breakpoint < self.low_breakpoint)

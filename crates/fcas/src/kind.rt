@@ -1,7 +1,7 @@
 // The kinds of unit.
 ghost use Rattle.std.specs.Prelude.{◌≡◌};
 ghost use Rattle.fcas.specs.Checks.{Checked};
-ghost use Rattle.fcas.specs.Kind.{downward as downward-of, kind_faults, kind_number, upward as upward-of};
+ghost use Rattle.fcas.specs.Kind.{downward as downward_of, kind_faults, kind_number, upward as upward_of};
 
 use crate::refusal::Refusal;
 use crate::service::Service;
@@ -29,7 +29,7 @@ impl Kind {
 
     // The regulating service that moves the unit's energy up.
     pub fn upward(self) -> Service
-        ensures { result.number ≡ upward-of self }
+        ensures { result.number ≡ upward_of self }
     {
         match self {
             Kind::Load => Service { number: 9 },
@@ -39,7 +39,7 @@ impl Kind {
 
     // The regulating service that moves it down.
     pub fn downward(self) -> Service
-        ensures { result.number ≡ downward-of self }
+        ensures { result.number ≡ downward_of self }
     {
         match self {
             Kind::Load => Service { number: 4 },

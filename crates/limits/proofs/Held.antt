@@ -7,7 +7,7 @@ use Rattle.limits.specs.declared.limit.Limit.{Limit}
 use Rattle.limits.specs.declared.limit.Limit.TheVariants.{RampUp, RampDown}
 use Rattle.limits.specs.declared.narrowing.Best.{Best}
 use Rattle.limits.proofs.Caps.{UptoIf}
-use Rattle.limits.proofs.Orders.{TenOnly, place_of, below_none, below_more, after-services, after-ramp-up}
+use Rattle.limits.proofs.Orders.{TenOnly, place_of, below_none, below_more, after_services, after_ramp_up}
 
 module _ (f : ℕ → Limit → Bool) where
   pub held_none : (limit : Limit) → Held f 0 (record { most = 4000001; limit = limit })
@@ -39,12 +39,12 @@ module _ (f : ℕ → Limit → Bool) where
       }))
       (cases_lt cap best.most)
 
-  pub held-service : (s i : ℕ) (d : Limit) (best : Best) (cap : Option ℕ) → s < 10 → i < 3 → Held f (3 * s + i) best → UptoIf (λ a. f a (get_or (limits_of s) i d)) cap → Held f (3 * s + (i + 1)) (narrowed_to best cap (get_or (limits_of s) i d))
-  held-service s i d best cap l m h u = held_step (3 * s + i) (3 * s + (i + 1)) (get_or (limits_of s) i d) best cap (place_of s i d m) (λ a. below_more (f a) s i d l m) h u
+  pub held_service : (s i : ℕ) (d : Limit) (best : Best) (cap : Option ℕ) → s < 10 → i < 3 → Held f (3 * s + i) best → UptoIf (λ a. f a (get_or (limits_of s) i d)) cap → Held f (3 * s + (i + 1)) (narrowed_to best cap (get_or (limits_of s) i d))
+  held_service s i d best cap l m h u = held_step (3 * s + i) (3 * s + (i + 1)) (get_or (limits_of s) i d) best cap (place_of s i d m) (λ a. below_more (f a) s i d l m) h u
 
   module _ (ten : (a : ℕ) → TenOnly (f a)) where
-    pub held-rise : (best : Best) (cap : Option ℕ) → Held f 30 best → UptoIf (λ a. f a RampUp) cap → Held f 31 (narrowed_to best cap RampUp)
-    held-rise best cap h u = held_step 30 31 RampUp best cap refl (λ a. after-services (f a) (ten a)) h u
+    pub held_rise : (best : Best) (cap : Option ℕ) → Held f 30 best → UptoIf (λ a. f a RampUp) cap → Held f 31 (narrowed_to best cap RampUp)
+    held_rise best cap h u = held_step 30 31 RampUp best cap refl (λ a. after_services (f a) (ten a)) h u
 
-    pub held-fall : (best : Best) (cap : Option ℕ) → Held f 31 best → UptoIf (λ a. f a RampDown) cap → Held f 32 (narrowed_to best cap RampDown)
-    held-fall best cap h u = held_step 31 32 RampDown best cap refl (λ a. after-ramp-up (f a) (ten a)) h u
+    pub held_fall : (best : Best) (cap : Option ℕ) → Held f 31 best → UptoIf (λ a. f a RampDown) cap → Held f 32 (narrowed_to best cap RampDown)
+    held_fall best cap h u = held_step 31 32 RampDown best cap refl (λ a. after_ramp_up (f a) (ten a)) h u

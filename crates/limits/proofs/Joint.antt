@@ -40,13 +40,13 @@ joint_at true t j e f = absurd (both_ways true e refl)
 joint_at false t j e f = cc
 
 module _ (terms : Terms) (s : ℕ) where
-  pub others-take-none : (limit : Limit) (joint : Option ℕ) → joint_of terms.kind limit ≡ joint → (s ≡ limit_by terms.kind limit → ⊥) → ((j : ℕ) → joint ≡ Some j → s ≡ j → ⊥) → coefficient_of terms limit s ≡ 0
-  others-take-none (Availability own) joint e ne nj = cond-false (eqb s own) 1 0 (ne_eqb s own ne)
-  others-take-none (Upper own) joint e ne nj = takes_none own (upward terms.kind) (regulating own) s _ _ (ne_eqb s own ne) (λ f. ne_eqb s _ (nj _ (sym e ∙ cond-false (regulating own) None (Some (upward terms.kind)) f)))
-  others-take-none (Lower own) joint e ne nj = takes_none own (downward terms.kind) (regulating own) s _ _ (ne_eqb s own ne) (λ f. ne_eqb s _ (nj _ (sym e ∙ cond-false (regulating own) None (Some (downward terms.kind)) f)))
-  others-take-none RampUp joint e ne nj = cond-false (eqb s (upward terms.kind)) 1 0 (ne_eqb s _ ne)
-  others-take-none RampDown joint e ne nj = cond-false (eqb s (downward terms.kind)) 1 0 (ne_eqb s _ ne)
-  others-take-none Plant joint e ne nj = refl
+  pub others_take_none : (limit : Limit) (joint : Option ℕ) → joint_of terms.kind limit ≡ joint → (s ≡ limit_by terms.kind limit → ⊥) → ((j : ℕ) → joint ≡ Some j → s ≡ j → ⊥) → coefficient_of terms limit s ≡ 0
+  others_take_none (Availability own) joint e ne nj = cond-false (eqb s own) 1 0 (ne_eqb s own ne)
+  others_take_none (Upper own) joint e ne nj = takes_none own (upward terms.kind) (regulating own) s _ _ (ne_eqb s own ne) (λ f. ne_eqb s _ (nj _ (sym e ∙ cond-false (regulating own) None (Some (upward terms.kind)) f)))
+  others_take_none (Lower own) joint e ne nj = takes_none own (downward terms.kind) (regulating own) s _ _ (ne_eqb s own ne) (λ f. ne_eqb s _ (nj _ (sym e ∙ cond-false (regulating own) None (Some (downward terms.kind)) f)))
+  others_take_none RampUp joint e ne nj = cond-false (eqb s (upward terms.kind)) 1 0 (ne_eqb s _ ne)
+  others_take_none RampDown joint e ne nj = cond-false (eqb s (downward terms.kind)) 1 0 (ne_eqb s _ ne)
+  others_take_none Plant joint e ne nj = refl
 
 -- the joint service is another than the limit's own
 pub joint_apart : (kind : Kind) (limit : Limit) (j : ℕ) → joint_of kind limit ≡ Some j → j ≡ limit_by kind limit → ⊥
@@ -91,22 +91,22 @@ module _ (terms : Terms) (limit : Limit) (sides : Option Sides) (held : ℕ → 
   put_elsewhere : (list : List Best) (place s : ℕ) (cap : Option ℕ) → (s ≡ place → ⊥) → put list place cap s ≡ get_or list s no_best
   put_elsewhere list place s cap ne = cond-false (eqb s place) _ _ (ne_eqb s place ne)
 
-  pub one-narrowed : (own : ℕ) (cap : Option ℕ) (after : List Best) → own ≡ limit_by terms.kind limit → joint_of terms.kind limit ≡ None → cap ≡ cap_by sides (held own) (coefficient_of terms limit own)
+  pub one_narrowed : (own : ℕ) (cap : Option ℕ) (after : List Best) → own ≡ limit_by terms.kind limit → joint_of terms.kind limit ≡ None → cap ≡ cap_by sides (held own) (coefficient_of terms limit own)
       → ((s : ℕ) → s < 10 → get_or after s no_best ≡ put before own cap s) → (s : ℕ) → s < 10 → Right s (get_or after s no_best)
-  one-narrowed own cap after o j k is s l =
+  one_narrowed own cap after o j k is s l =
       ⊎_elim
       (λ (e : s ≡ own). is s l ∙ put_here before own s cap e k refl)
       (λ (ne : s ≡ own → ⊥). is s l ∙ put_elsewhere before own s cap ne
-      ∙ sym (uncapped sides (held s) _ _ limit (others-take-none terms s limit None j (λ e. ne (e ∙ sym o)) (λ i h _. none_some i h))))
+      ∙ sym (uncapped sides (held s) _ _ limit (others_take_none terms s limit None j (λ e. ne (e ∙ sym o)) (λ i h _. none_some i h))))
       (cases_eq s own)
     where
       none_some : (i : ℕ) → ◌≡◌ {A = Option ℕ} None (Some i) → ⊥
       none_some i h = let z : ◌≡◌ {A = ℕ} 0 1 = cc in omega arith
 
-  pub two-narrowed : (own other : ℕ) (cap cap' : Option ℕ) (mid after : List Best) → own ≡ limit_by terms.kind limit → joint_of terms.kind limit ≡ Some other
+  pub two_narrowed : (own other : ℕ) (cap cap' : Option ℕ) (mid after : List Best) → own ≡ limit_by terms.kind limit → joint_of terms.kind limit ≡ Some other
       → cap ≡ cap_by sides (held own) (coefficient_of terms limit own) → cap' ≡ cap_by sides (held other) (coefficient_of terms limit other)
       → ((s : ℕ) → s < 10 → get_or mid s no_best ≡ put before own cap s) → ((s : ℕ) → s < 10 → get_or after s no_best ≡ put mid other cap' s) → (s : ℕ) → s < 10 → Right s (get_or after s no_best)
-  two-narrowed own other cap cap' mid after o j k k' is is' s l =
+  two_narrowed own other cap cap' mid after o j k k' is is' s l =
       ⊎_elim
       (λ (e : s ≡ other). is' s l ∙ put_here mid other s cap' e k' (is s l ∙ put_elsewhere before own s cap (λ f. joint_apart terms.kind limit other j (sym e ∙ f ∙ o))))
       (λ (ne : s ≡ other → ⊥).
@@ -114,7 +114,7 @@ module _ (terms : Terms) (limit : Limit) (sides : Option Sides) (held : ℕ → 
       ∙ ⊎_elim
       (λ (e : s ≡ own). is s l ∙ put_here before own s cap e k refl)
       (λ (nf : s ≡ own → ⊥). is s l ∙ put_elsewhere before own s cap nf
-      ∙ sym (uncapped sides (held s) _ _ limit (others-take-none terms s limit (Some other) j (λ e. nf (e ∙ sym o)) (λ i h f. ne (f ∙ sym (same i h))))))
+      ∙ sym (uncapped sides (held s) _ _ limit (others_take_none terms s limit (Some other) j (λ e. nf (e ∙ sym o)) (λ i h f. ne (f ∙ sym (same i h))))))
       (cases_eq s own))
       (cases_eq s other)
     where

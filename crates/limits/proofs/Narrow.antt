@@ -8,9 +8,9 @@ use Rattle.limits.specs.declared.limit.Limit.TheVariants.{RampUp, RampDown}
 use Rattle.limits.specs.declared.narrowing.Best.{Best}
 use Rattle.limits.specs.declared.row.Row.{Row}
 use Rattle.limits.specs.declared.terms.Terms.{Terms}
-use Rattle.limits.proofs.Breaks.{ten-sides}
+use Rattle.limits.proofs.Breaks.{ten_sides}
 use Rattle.limits.proofs.Caps.{UptoIf, capped}
-use Rattle.limits.proofs.Held.{held-service, held-rise, held-fall}
+use Rattle.limits.proofs.Held.{held_service, held_rise, held_fall}
 use Rattle.limits.proofs.Linear.{linear}
 use Rattle.limits.proofs.Orders.{TenOnly}
 
@@ -22,24 +22,24 @@ module _ (terms : Terms) (row : Row) (s : ℕ) (within : s < length row.amounts)
   capped_at : (limit : Limit) → exceeded (sides_of terms row limit) ≡ false → UptoIf (λ a. exceeded_with terms row s a limit) (cap_at limit)
   capped_at limit fits = capped (amount row s) (coefficient_of terms limit s) (sides_of terms row limit) (λ a. sides_of terms (with_amount row s a) limit) fits (λ a. linear terms row s a within limit)
 
-  pub at-service : (own i : ℕ) (d : Limit) (best after : Best) → own < 10 → i < 3 → Held (exceeded_with terms row s) (3 * own + i) best → exceeded (sides_of terms row (get_or (limits_of own) i d)) ≡ false → after ≡ narrowed_to best (cap_at (get_or (limits_of own) i d)) (get_or (limits_of own) i d) → Held (exceeded_with terms row s) (3 * own + (i + 1)) after
-  at-service own i d best after l m h fits e =
-      subst (λ (b : Best). Held (exceeded_with terms row s) (3 * own + (i + 1)) b) (sym e) (held-service (exceeded_with terms row s) own i d best (cap_at (get_or (limits_of own) i d)) l m h (capped_at (get_or (limits_of own) i d) fits))
+  pub at_service : (own i : ℕ) (d : Limit) (best after : Best) → own < 10 → i < 3 → Held (exceeded_with terms row s) (3 * own + i) best → exceeded (sides_of terms row (get_or (limits_of own) i d)) ≡ false → after ≡ narrowed_to best (cap_at (get_or (limits_of own) i d)) (get_or (limits_of own) i d) → Held (exceeded_with terms row s) (3 * own + (i + 1)) after
+  at_service own i d best after l m h fits e =
+      subst (λ (b : Best). Held (exceeded_with terms row s) (3 * own + (i + 1)) b) (sym e) (held_service (exceeded_with terms row s) own i d best (cap_at (get_or (limits_of own) i d)) l m h (capped_at (get_or (limits_of own) i d) fits))
 
   module _ (ten : length terms.offers ≡ 10) where
     only_ten : (a : ℕ) → TenOnly (exceeded_with terms row s a)
-    only_ten a = ten-sides terms (with_amount row s a) ten
+    only_ten a = ten_sides terms (with_amount row s a) ten
 
-    pub at-rise : (best after : Best) → Held (exceeded_with terms row s) 30 best → exceeded (sides_of terms row RampUp) ≡ false → after ≡ narrowed_to best (cap_at RampUp) RampUp → Held (exceeded_with terms row s) 31 after
-    at-rise best after h fits e = subst (λ (b : Best). Held (exceeded_with terms row s) 31 b) (sym e) (held-rise (exceeded_with terms row s) only_ten best (cap_at RampUp) h (capped_at RampUp fits))
+    pub at_rise : (best after : Best) → Held (exceeded_with terms row s) 30 best → exceeded (sides_of terms row RampUp) ≡ false → after ≡ narrowed_to best (cap_at RampUp) RampUp → Held (exceeded_with terms row s) 31 after
+    at_rise best after h fits e = subst (λ (b : Best). Held (exceeded_with terms row s) 31 b) (sym e) (held_rise (exceeded_with terms row s) only_ten best (cap_at RampUp) h (capped_at RampUp fits))
 
-    pub at-fall : (best after : Best) → Held (exceeded_with terms row s) 31 best → exceeded (sides_of terms row RampDown) ≡ false → after ≡ narrowed_to best (cap_at RampDown) RampDown → Held (exceeded_with terms row s) 32 after
-    at-fall best after h fits e = subst (λ (b : Best). Held (exceeded_with terms row s) 32 b) (sym e) (held-fall (exceeded_with terms row s) only_ten best (cap_at RampDown) h (capped_at RampDown fits))
+    pub at_fall : (best after : Best) → Held (exceeded_with terms row s) 31 best → exceeded (sides_of terms row RampDown) ≡ false → after ≡ narrowed_to best (cap_at RampDown) RampDown → Held (exceeded_with terms row s) 32 after
+    at_fall best after h fits e = subst (λ (b : Best). Held (exceeded_with terms row s) 32 b) (sym e) (held_fall (exceeded_with terms row s) only_ten best (cap_at RampDown) h (capped_at RampDown fits))
 
     -- the last of the limits with sides
     pub least_at : (best : Best) (found : Option Best) → Held (exceeded_with terms row s) 31 best → Narrowed (sides_of terms row RampDown) (amount row s) (coefficient_of terms RampDown s) best RampDown found → Least terms row s found
     least_at best None h e = (RampDown, e)
-    least_at best (Some after) h e = at-fall best after h e.0 e.1
+    least_at best (Some after) h e = at_fall best after h e.0 e.1
 
   pub held_place : (m n : ℕ) (best : Best) → m ≡ n → Held (exceeded_with terms row s) m best → Held (exceeded_with terms row s) n best
   held_place m n best e h = subst (λ (k : ℕ). Held (exceeded_with terms row s) k best) e h

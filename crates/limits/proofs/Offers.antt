@@ -9,16 +9,16 @@ use Rattle.limits.specs.Terms.{all_in_bounds, held_bids, in_bounds, no_offer, of
 use Rattle.limits.specs.declared.terms.Offer.{Offer}
 
 module _ (kind : Kind) (m : Measured) where
-  pub offers-are : (start : ℕ) (bids : List (Option CheckedBid)) (offers : List Offer) → length offers ≡ length bids
+  pub offers_are : (start : ℕ) (bids : List (Option CheckedBid)) (offers : List Offer) → length offers ≡ length bids
       → ((s : ℕ) → s < length bids → get_or offers s no_offer ≡ offer_of kind m (start + s) (option_map (λ checked. checked.bid) (get_or bids s None))) → offers ≡ offers_from kind m start (held_bids bids)
-  offers-are start [] [] e each = refl
-  offers-are start [] (o ∷ os) e each = absurd (omega (arith, e))
-  offers-are start (b ∷ bs) [] e each = absurd (omega (arith, e))
-  offers-are start (b ∷ bs) (o ∷ os) e each =
+  offers_are start [] [] e each = refl
+  offers_are start [] (o ∷ os) e each = absurd (omega (arith, e))
+  offers_are start (b ∷ bs) [] e each = absurd (omega (arith, e))
+  offers_are start (b ∷ bs) (o ∷ os) e each =
       let first : start + 0 ≡ start = omega arith in
       ap (λ (x : Offer). x ∷ os) (each 0 (omega arith) ∙ ap (λ (n : ℕ). offer_of kind m n (option_map (λ checked. checked.bid) b)) first)
       ∙ ap (λ (xs : List Offer). offer_of kind m start (option_map (λ checked. checked.bid) b) ∷ xs)
-      (offers-are (suc start) bs os (omega (arith, e)) (λ s l.
+      (offers_are (suc start) bs os (omega (arith, e)) (λ s l.
       let next : start + suc s ≡ suc start + s = omega arith in
       each (suc s) (omega arith) ∙ ap (λ (n : ℕ). offer_of kind m n (option_map (λ checked. checked.bid) (get_or bs s None))) next))
 

@@ -51,26 +51,26 @@ module _ (f : Limit → Bool) (ten : TenOnly f) where
   by_ten : (s n : ℕ) (limit : Limit) → (s < 10 → place limit < n) → (10 ≤ s → f limit ≡ false) → Below f n → f limit ≡ false
   by_ten s n limit near far below = ⊎_elim (λ (l : s < 10). below limit (near l)) far (cases_lt s 10)
 
-  pub after-services : Below f 30 → f RampUp ≡ false → Below f 31
-  after-services below here (Availability s) l = by_ten s 30 (Availability s) (λ m. omega arith) (ten.availability s) below
-  after-services below here (Upper s) l = below (Upper s) (omega arith)
-  after-services below here (Lower s) l = below (Lower s) (omega arith)
-  after-services below here RampUp l = here
-  after-services below here RampDown l = absurd (omega (arith, l))
-  after-services below here Plant l = absurd (omega (arith, l))
+  pub after_services : Below f 30 → f RampUp ≡ false → Below f 31
+  after_services below here (Availability s) l = by_ten s 30 (Availability s) (λ m. omega arith) (ten.availability s) below
+  after_services below here (Upper s) l = below (Upper s) (omega arith)
+  after_services below here (Lower s) l = below (Lower s) (omega arith)
+  after_services below here RampUp l = here
+  after_services below here RampDown l = absurd (omega (arith, l))
+  after_services below here Plant l = absurd (omega (arith, l))
 
-  pub after-ramp-up : Below f 31 → f RampDown ≡ false → Below f 32
-  after-ramp-up below here (Availability s) l = below (Availability s) (omega arith)
-  after-ramp-up below here (Upper s) l = by_ten s 31 (Upper s) (λ m. omega arith) (ten.upper s) below
-  after-ramp-up below here (Lower s) l = below (Lower s) (omega arith)
-  after-ramp-up below here RampUp l = below RampUp (omega arith)
-  after-ramp-up below here RampDown l = here
-  after-ramp-up below here Plant l = absurd (omega (arith, l))
+  pub after_ramp_up : Below f 31 → f RampDown ≡ false → Below f 32
+  after_ramp_up below here (Availability s) l = below (Availability s) (omega arith)
+  after_ramp_up below here (Upper s) l = by_ten s 31 (Upper s) (λ m. omega arith) (ten.upper s) below
+  after_ramp_up below here (Lower s) l = below (Lower s) (omega arith)
+  after_ramp_up below here RampUp l = below RampUp (omega arith)
+  after_ramp_up below here RampDown l = here
+  after_ramp_up below here Plant l = absurd (omega (arith, l))
 
-  pub after-ramp-down : Below f 32 → f Plant ≡ false → (limit : Limit) → f limit ≡ false
-  after-ramp-down below here (Availability s) = by_ten s 32 (Availability s) (λ m. omega arith) (ten.availability s) below
-  after-ramp-down below here (Upper s) = by_ten s 32 (Upper s) (λ m. omega arith) (ten.upper s) below
-  after-ramp-down below here (Lower s) = by_ten s 32 (Lower s) (λ m. omega arith) (ten.lower s) below
-  after-ramp-down below here RampUp = below RampUp (omega arith)
-  after-ramp-down below here RampDown = below RampDown (omega arith)
-  after-ramp-down below here Plant = here
+  pub after_ramp_down : Below f 32 → f Plant ≡ false → (limit : Limit) → f limit ≡ false
+  after_ramp_down below here (Availability s) = by_ten s 32 (Availability s) (λ m. omega arith) (ten.availability s) below
+  after_ramp_down below here (Upper s) = by_ten s 32 (Upper s) (λ m. omega arith) (ten.upper s) below
+  after_ramp_down below here (Lower s) = by_ten s 32 (Lower s) (λ m. omega arith) (ten.lower s) below
+  after_ramp_down below here RampUp = below RampUp (omega arith)
+  after_ramp_down below here RampDown = below RampDown (omega arith)
+  after_ramp_down below here Plant = here

@@ -11,7 +11,7 @@ use Rattle.limits.specs.declared.narrowing.Best.{Best}
 use Rattle.limits.specs.declared.row.Row.{Row}
 use Rattle.limits.specs.declared.terms.Offer.{Offer}
 use Rattle.limits.specs.declared.terms.Terms.{Terms}
-use Rattle.limits.proofs.Breaks.{breaks-is, exceeded-place}
+use Rattle.limits.proofs.Breaks.{breaks_is, exceeded_place}
 
 -- a live service's record
 pub live_figure : (kind : Kind) (broken : ℕ → Limit → Bool) (best after : Best) (f : Figure) → after ≡ best → GreatestBorne broken best.most best.limit → f.figure ≡ after.most → f.ground ≡ limit_number after.limit → f.by ≡ limit_by kind after.limit → LiveFigure kind broken f
@@ -40,7 +40,7 @@ when_live b P Q e p = subst (λ (x : Bool). MatchBool x P Q) (sym e) p
 -- a row that exceeds a limit, or that the plant does not allow, is not borne
 pub not_borne : (allowed : Row → Bool) (terms : Terms) (row : Row) → length terms.offers ≡ 10 → (limit : Limit) → exceeded (sides_of terms row limit) ≡ true → Borne (breaks allowed terms row) → ⊥
 not_borne allowed terms row ten limit h none =
-    both_ways (breaks allowed terms row limit) (none limit) (breaks-is terms row ten allowed limit (λ e. omega (arith, exceeded-place terms row ten limit h, ap place e)) ∙ h)
+    both_ways (breaks allowed terms row limit) (none limit) (breaks_is terms row ten allowed limit (λ e. omega (arith, exceeded_place terms row ten limit h, ap place e)) ∙ h)
 
 pub not_allowed : (allowed : Row → Bool) (terms : Terms) (row : Row) → allowed row ≡ false → Borne (breaks allowed terms row) → ⊥
 unfolding breaks

@@ -21,8 +21,8 @@ abbrev pub first_of_row : Bool → Bool → Bool → Option Limit
 first_of_row rises falls allows = cond rises (Some RampUp) (cond falls (Some RampDown) (cond allows None (Some Plant)))
 
 abbrev pub earlier_of : Option Limit → Option Limit → Option Limit
-earlier_of None ofRow = ofRow
-earlier_of (Some limit) ofRow = Some limit
+earlier_of None of_row = of_row
+earlier_of (Some limit) of_row = Some limit
 
 -- What one kilowatt of a service takes from the room of a limit.
 abbrev pub coefficient_of : Terms → Limit → ℕ → ℕ

@@ -3,7 +3,7 @@ ghost use Rattle.std.specs.Prelude.{◌≡◌, ◌≤◌, pos, ◌+ℤ◌, ◌-�
 ghost use Rattle.limits.specs.Bounds.{Bounded, BoundedIf, Moved, Powers, Product};
 ghost use Rattle.fcas.specs.Service.{regulating};
 ghost use Rattle.limits.specs.Narrowing.{earlier_of, first_of_row};
-ghost use Rattle.limits.specs.Limit.{breaks, exceeded, Finds, FindsBefore, limit_by, limit_number, lowered as lowered-energy, lower_sides, offer_at, raised as raised-energy, sides_of, upper_sides};
+ghost use Rattle.limits.specs.Limit.{breaks, exceeded, Finds, FindsBefore, limit_by, limit_number, lowered as lowered_energy, lower_sides, offer_at, raised as raised_energy, sides_of, upper_sides};
 
 use crate::plant::PlantLimit;
 use crate::row::CheckedRow;
@@ -128,7 +128,7 @@ impl CheckedTerms {
 
     // The energy with the upward amount added.
     fn raised(&self, row: &CheckedRow) -> i64
-        ensures value { result ≡ raised-energy self.now.terms row.now.row }
+        ensures value { result ≡ raised_energy self.now.terms row.now.row }
         ensures bound { Moved result }
     {
         i64::from(row.row.energy) + i64::from(row.amount(self.terms.kind.upward().number))
@@ -136,7 +136,7 @@ impl CheckedTerms {
 
     // The energy with the downward amount taken away.
     fn lowered(&self, row: &CheckedRow) -> i64
-        ensures value { result ≡ lowered-energy self.now.terms row.now.row }
+        ensures value { result ≡ lowered_energy self.now.terms row.now.row }
         ensures bound { Moved result }
     {
         i64::from(row.row.energy) - i64::from(row.amount(self.terms.kind.downward().number))

@@ -3,7 +3,7 @@ ghost use Rattle.std.specs.Prelude.{◌≡◌, ℕ, ◌<◌, ◌≤◌, false, �
 ghost use Rattle.limits.specs.Bounds.{Bounded, BoundedIf};
 ghost use Rattle.limits.specs.Limit.{exceeded, limit_by, sides_of};
 ghost use Rattle.limits.specs.Narrowing.{cap_of, coefficient_of, joint_of, Least, LeastOfAll, Narrowed, NarrowedAll, narrowed_to, no_best};
-ghost use Rattle.limits.specs.Row.{amount as amount-of};
+ghost use Rattle.limits.specs.Row.{amount as amount_of};
 
 use crate::limit::{Limit, Sides, is_regulating};
 use crate::row::CheckedRow;
@@ -131,7 +131,7 @@ impl CheckedTerms {
         service: u8,
         best: Best,
     ) -> Option<Best>
-        ensures { Narrowed (sides_of self.now.terms row.now.row limit) (amount-of row.now.row service) (coefficient_of self.now.terms limit service) best limit result }
+        ensures { Narrowed (sides_of self.now.terms row.now.row limit) (amount_of row.now.row service) (coefficient_of self.now.terms limit service) best limit result }
     {
         let Some(sides) = self.sides(row, limit) else {
             return Some(best);

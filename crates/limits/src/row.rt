@@ -2,7 +2,7 @@
 ghost use Rattle.std.specs.Prelude.{◌≡◌, ◌≤◌, false, length, pos, ◌≤ℤ◌};
 ghost use Rattle.fcas.specs.Bid.{some_above};
 ghost use Rattle.fcas.specs.Checks.{Checked};
-ghost use Rattle.limits.specs.Row.{amount as amount-of, row_faults, with_amount};
+ghost use Rattle.limits.specs.Row.{amount as amount_of, row_faults, with_amount};
 
 use fcas::{Kind, Refusal, Service, some_above};
 
@@ -37,7 +37,7 @@ impl CheckedRow {
 
     // The amount of a service, 0 for what is none.
     pub(crate) fn amount(&self, service: u8) -> u32
-        ensures value { result ≡ amount-of self.now.row service }
+        ensures value { result ≡ amount_of self.now.row service }
         ensures bound { result ≤ 4000000 }
     {
         if service > 9 {

@@ -65,8 +65,8 @@ module _ (plant : ConnectionCap) (row : Row) (s : ℕ) (within : s < length row.
   elsewhere a b ne = get_or-set_other row.amounts s b a 0 (λ f. ne (sym f))
 
   -- the room of a service that adds to the flow
-  pub room-adds : (s == upward row.kind || s == delayed row.kind) ≡ true → (a : ℕ) → int_le (pos a) ((pos (cap_of_unit plant row.unit) -ℤ flow row) +ℤ pos (amount row s)) ≡ cap_allows plant (with_amount row s a)
-  room-adds t a =
+  pub room_adds : (s == upward row.kind || s == delayed row.kind) ≡ true → (a : ℕ) → int_le (pos a) ((pos (cap_of_unit plant row.unit) -ℤ flow row) +ℤ pos (amount row s)) ≡ cap_allows plant (with_amount row s a)
+  room_adds t a =
       ⊎_elim
       (λ (f : nat_eq s u ≡ true).
       let e = eqb-true s u f in
@@ -77,7 +77,7 @@ module _ (plant : ConnectionCap) (row : Row) (s : ℕ) (within : s < length row.
       (or_cases (s == u) (s == d) t)
 
   -- and of one that does not
-  pub room-else : (s == upward row.kind || s == delayed row.kind) ≡ false → (a : ℕ) → int_le (pos 0) ((pos (cap_of_unit plant row.unit) -ℤ flow row) +ℤ pos 0) ≡ cap_allows plant (with_amount row s a)
-  room-else t a =
+  pub room_else : (s == upward row.kind || s == delayed row.kind) ≡ false → (a : ℕ) → int_le (pos 0) ((pos (cap_of_unit plant row.unit) -ℤ flow row) +ℤ pos 0) ≡ cap_allows plant (with_amount row s a)
+  room_else t a =
       let p = or_parts (s == u) (s == d) t in
       rw (elsewhere a u (eqb-false s u p.0), elsewhere a d (eqb-false s d p.1)) (neither_takes row.energy (amount row u) (amount row d) (cap_of_unit plant row.unit))

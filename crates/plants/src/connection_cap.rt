@@ -1,8 +1,8 @@
 // A cap on what flows through each unit's connection.
 ghost use Rattle.std.specs.Prelude.{◌≡◌, ◌+◌, ◌≤◌, ◌||◌, pos, negsuc, ◌+ℤ◌, ◌-ℤ◌, ◌≤ℤ◌, ◌==◌};
-ghost use Rattle.fcas.specs.Kind.{upward as upward-of};
-ghost use Rattle.limits.specs.Row.{amount as amount-of};
-ghost use Rattle.plants.specs.ConnectionCap.{cap_allows, cap_of_unit, delayed as delayed-of, flow as flow-of};
+ghost use Rattle.fcas.specs.Kind.{upward as upward_of};
+ghost use Rattle.limits.specs.Row.{amount as amount_of};
+ghost use Rattle.plants.specs.ConnectionCap.{cap_allows, cap_of_unit, delayed as delayed_of, flow as flow_of};
 ghost use Rattle.plants.specs.Flows.{cap_lowering};
 
 use crate::room::greatest;
@@ -17,7 +17,7 @@ pub struct ConnectionCap {
 
 // The delayed service that moves a unit's energy up.
 fn delayed(kind: Kind) -> u8
-    ensures value { result ≡ delayed-of kind }
+    ensures value { result ≡ delayed_of kind }
     ensures bound { result ≤ 9 }
 {
     match kind {
@@ -28,7 +28,7 @@ fn delayed(kind: Kind) -> u8
 
 // What flows through the connection when regulation and the delayed service are called on in full.
 fn flow(row: &Row) -> i64
-    ensures value { result ≡ flow-of row.now }
+    ensures value { result ≡ flow_of row.now }
     ensures low { negsuc 2147483647 ≤ℤ result }
     ensures high { result ≤ℤ pos 12884901888 }
 {
@@ -41,7 +41,7 @@ fn flow(row: &Row) -> i64
 
 // Whether a service adds to the flow.
 fn adds(row: &Row, service: u8) -> bool
-    ensures { result ≡ (service == upward-of row.now.kind || service == delayed-of row.now.kind) }
+    ensures { result ≡ (service == upward_of row.now.kind || service == delayed_of row.now.kind) }
 {
     (service == row.kind.upward().number) | (service == delayed(row.kind))
 }
@@ -59,7 +59,7 @@ impl ConnectionCap {
 
     // What the cap leaves to a service that holds so much of the flow.
     fn room(&self, row: &Row, held: u32) -> i64
-        ensures { result ≡ (pos (cap_of_unit self.now row.now.unit) -ℤ flow-of row.now) +ℤ pos held }
+        ensures { result ≡ (pos (cap_of_unit self.now row.now.unit) -ℤ flow_of row.now) +ℤ pos held }
     {
         i64::from(self.cap(row.unit)) - flow(row) + i64::from(held)
     }

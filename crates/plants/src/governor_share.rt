@@ -1,7 +1,7 @@
 // What the governors of a plant may share out.
 ghost use Rattle.std.specs.Prelude.{◌≡◌, ◌<◌, ◌≤◌, pos, ◌-ℤ◌, int_le};
 ghost use Rattle.limits.specs.Plant.{Greatest};
-ghost use Rattle.plants.specs.GovernorShare.{lowers as lowers-of, raises as raises-of, share_allows};
+ghost use Rattle.plants.specs.GovernorShare.{lowers as lowers_of, raises as raises_of, share_allows};
 ghost use Rattle.plants.specs.Shares.{share_lowering};
 
 use crate::room::greatest;
@@ -16,7 +16,7 @@ pub struct GovernorShare {
 
 // The five raise amounts together.
 fn raises(row: &Row) -> u64
-    ensures value { result ≡ raises-of row.now }
+    ensures value { result ≡ raises_of row.now }
     ensures bound { result < 21474836480 }
 {
     let a = &row.amounts;
@@ -25,7 +25,7 @@ fn raises(row: &Row) -> u64
 
 // The five lower amounts together.
 fn lowers(row: &Row) -> u64
-    ensures value { result ≡ lowers-of row.now }
+    ensures value { result ≡ lowers_of row.now }
     ensures bound { result < 21474836480 }
 {
     let a = &row.amounts;

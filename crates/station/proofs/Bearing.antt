@@ -121,8 +121,8 @@ module _ (allowed : Row → Bool) (book : Book) (bears : Bears allowed book) whe
   bears_written (Abandon pass) answer none heard right = entered pass.unit _ (ended allowed pass.unit (unit_at book pass.unit))
   bears_written (Lapse unit) answer none heard right = entered unit _ (ended allowed unit (unit_at book unit))
 
-  pub bears-after : (call : Call) (answer : Answer) → Right allowed book call answer → Bears allowed (after allowed book call)
-  bears-after call answer right = by (first_of (checks book call)) refl (not (some_breaks (broken_by allowed book call))) refl
+  pub bears_after : (call : Call) (answer : Answer) → Right allowed book call answer → Bears allowed (after allowed book call)
+  bears_after call answer right = by (first_of (checks book call)) refl (not (some_breaks (broken_by allowed book call))) refl
     where
       by : (o : Option ℕ) → first_of (checks book call) ≡ o → (b : Bool) → not (some_breaks (broken_by allowed book call)) ≡ b → Bears allowed (cond (not (is_some o) && b) (written book call) book)
       by None e true f =

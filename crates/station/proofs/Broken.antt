@@ -52,12 +52,12 @@ module _ (broken : Limit → Bool) where
       here : (m : ℕ) → (broken (Availability m) || (broken (Upper m) || broken (Lower m))) ≡ true → (broken (Availability m) || (broken (Upper m) || (broken (Lower m) || some_below m broken))) ≡ true
       here m h = three (broken (Availability m)) (broken (Upper m)) (broken (Lower m)) (some_below m broken) h
 
-  abbrev ofService : ℕ → Bool
-  ofService s = broken (Availability s) || (broken (Upper s) || broken (Lower s))
+  abbrev of_service : ℕ → Bool
+  of_service s = broken (Availability s) || (broken (Upper s) || broken (Lower s))
 
   -- a limit that breaks shows, where those of services above nine never break
-  module _ (none : (s : ℕ) → 10 ≤ s → ofService s ≡ false) where
-    of_services : (s : ℕ) → ofService s ≡ true → some_breaks broken ≡ true
+  module _ (none : (s : ℕ) → 10 ≤ s → of_service s ≡ false) where
+    of_services : (s : ℕ) → of_service s ≡ true → some_breaks broken ≡ true
     of_services s e = ⊎_elim
         (λ (l : s < 10). or_left (some_below 10 broken) _ (below_one 10 s l e))
         (λ (l : 10 ≤ s). let f = none s l in let clash : ◌≡◌ {A = ℕ} 0 1 = cc in absurd (omega arith))
@@ -72,14 +72,14 @@ module _ (broken : Limit → Bool) where
     shows Plant e = or_right (some_below 10 broken) _ (or_right (broken RampUp) _ (or_right (broken RampDown) _ e))
 
 module _ (allowed : Row → Bool) (terms : Terms) (row : Row) (ten : length terms.offers ≡ 10) where
-  none_above : (s : ℕ) → 10 ≤ s → ofService (breaks allowed terms row) s ≡ false
+  none_above : (s : ℕ) → 10 ≤ s → of_service (breaks allowed terms row) s ≡ false
   unfolding breaks
   none_above s l =
       let none : offer_at terms s ≡ no_offer = no_offer_lem terms.offers s (omega (arith, ten)) in
       rw none refl
 
-  pub breaks-show : (limit : Limit) → breaks allowed terms row limit ≡ true → some_breaks (breaks allowed terms row) ≡ true
-  breaks-show = shows (breaks allowed terms row) none_above
+  pub breaks_show : (limit : Limit) → breaks allowed terms row limit ≡ true → some_breaks (breaks allowed terms row) ≡ true
+  breaks_show = shows (breaks allowed terms row) none_above
 
 offers_count : (kind : Kind) (m : Measured) (n : ℕ) (bids : List (Option Bid)) → length (offers_from kind m n bids) ≡ length bids
 offers_count kind m n [] = refl
@@ -93,22 +93,22 @@ module _ (allowed : Row → Bool) (unit : ℕ) (kind : Kind) (bids : List (Optio
   at_energy : (s : State) (energy : ℕ) (limit : Limit) → broken_at allowed unit energy (entry_in s kind bids reading amounts) limit ≡ true → some_breaks (broken_at allowed unit energy (entry_in s kind bids reading amounts)) ≡ true
   at_energy Vacant energy limit e = let clash : ◌≡◌ {A = ℕ} 0 1 = cc in absurd (omega arith)
   at_energy Idle energy limit e = let clash : ◌≡◌ {A = ℕ} 0 1 = cc in absurd (omega arith)
-  at_energy (Open serial) energy limit e = breaks-show allowed (terms_of kind bids reading) _ ten limit e
-  at_energy (OpenWithEnergy serial held) energy limit e = breaks-show allowed (terms_of kind bids reading) _ ten limit e
+  at_energy (Open serial) energy limit e = breaks_show allowed (terms_of kind bids reading) _ ten limit e
+  at_energy (OpenWithEnergy serial held) energy limit e = breaks_show allowed (terms_of kind bids reading) _ ten limit e
 
   with_amount_lem : (s : State) (service a : ℕ) (limit : Limit) → broken_with allowed unit service a (entry_in s kind bids reading amounts) limit ≡ true → some_breaks (broken_with allowed unit service a (entry_in s kind bids reading amounts)) ≡ true
   with_amount_lem Vacant service a limit e = let clash : ◌≡◌ {A = ℕ} 0 1 = cc in absurd (omega arith)
   with_amount_lem Idle service a limit e = let clash : ◌≡◌ {A = ℕ} 0 1 = cc in absurd (omega arith)
-  with_amount_lem (Open serial) service a limit e = breaks-show allowed (terms_of kind bids reading) _ ten limit e
-  with_amount_lem (OpenWithEnergy serial held) service a limit e = breaks-show allowed (terms_of kind bids reading) _ ten limit e
+  with_amount_lem (Open serial) service a limit e = breaks_show allowed (terms_of kind bids reading) _ ten limit e
+  with_amount_lem (OpenWithEnergy serial held) service a limit e = breaks_show allowed (terms_of kind bids reading) _ ten limit e
 
 -- the same of a row
 module _ (allowed : Row → Bool) (unit : ℕ) (row : UnitRow) where
   ten_offers : length (offers_from row.kind row.reading.measured 0 (held_bids row.bids)) ≡ 10
   ten_offers = offers_count row.kind row.reading.measured 0 (held_bids row.bids) ∙ held_count row.bids ∙ row.ten_bids
 
-  pub energy-shows : (energy : ℕ) (limit : Limit) → broken_at allowed unit energy (entry_of row) limit ≡ true → some_breaks (broken_at allowed unit energy (entry_of row)) ≡ true
-  energy-shows = at_energy allowed unit row.kind (held_bids row.bids) row.reading.measured row.amounts ten_offers row.state
+  pub energy_shows : (energy : ℕ) (limit : Limit) → broken_at allowed unit energy (entry_of row) limit ≡ true → some_breaks (broken_at allowed unit energy (entry_of row)) ≡ true
+  energy_shows = at_energy allowed unit row.kind (held_bids row.bids) row.reading.measured row.amounts ten_offers row.state
 
-  pub amount-shows : (service a : ℕ) (limit : Limit) → broken_with allowed unit service a (entry_of row) limit ≡ true → some_breaks (broken_with allowed unit service a (entry_of row)) ≡ true
-  amount-shows = with_amount_lem allowed unit row.kind (held_bids row.bids) row.reading.measured row.amounts ten_offers row.state
+  pub amount_shows : (service a : ℕ) (limit : Limit) → broken_with allowed unit service a (entry_of row) limit ≡ true → some_breaks (broken_with allowed unit service a (entry_of row)) ≡ true
+  amount_shows = with_amount_lem allowed unit row.kind (held_bids row.bids) row.reading.measured row.amounts ten_offers row.state

@@ -22,10 +22,10 @@ use Rattle.station.specs.declared.pass.PassNumbers.{PassNumbers}
 use Rattle.states.specs.declared.refusal.Refusal.{Refusal}
 use Rattle.station.specs.declared.row.UnitRow.{UnitRow}
 use Rattle.station.specs.declared.station.Station.{Station}
-use Rattle.station.proofs.Broken.{amount-shows, energy-shows}
+use Rattle.station.proofs.Broken.{amount_shows, energy_shows}
 use Rattle.station.proofs.Firsts.{first_skip, first_stop}
 use Rattle.station.proofs.Passes.{known_open}
-use Rattle.station.proofs.Turns.{by-refusal, by-trial, heeded, lent, lent_view, none_breaks, turned-away, under_rests, unit-is, with_rows}
+use Rattle.station.proofs.Turns.{by_refusal, by_trial, heeded, lent, lent_view, none_breaks, turned_away, under_rests, unit_is, with_rows}
 
 pub same_told : {X : Type 0} (r : Result X Refusal) (refusal : Refusal) → IsErrAnd r (λ e. e ≡ refusal) → IsErrAnd r (λ e. told e ≡ told refusal)
 same_told (Ok x) refusal e = e
@@ -60,7 +60,7 @@ module _ {P : Type 0} (allowed : P → Row → Bool) (s : Station P) (pass : Pas
   row = get_or s.rows u d
 
   at : unit_at (view_of s) u ≡ entry_of row
-  at = unit-is allowed s u d row l
+  at = unit_is allowed s u d row l
 
   opened : is_open (entry_of row) ≡ true
   opened = ap is_open (sym at) ∙ known_open (view_of s) found known'
@@ -76,29 +76,29 @@ module _ {P : Type 0} (allowed : P → Row → Bool) (s : Station P) (pass : Pas
   held_left rest = first_skip (pass_faults (view_of s) found) (energy_faults (view_of s) found ++ rest (unit_at (view_of s) u)) known'
       ∙ ap (λ (x : Option Entry). first_of (((29, not (has_energy x)) ∷ []) ++ rest x)) at ∙ sym (open_held (entry_of row) (rest (entry_of row)) opened)
 
-  pub energy-turn : (energy : ℕ) (row' : UnitRow) (r : Result (Unit {0}) Refusal) → first_of (power_faults energy) ≡ None
+  pub energy_turn : (energy : ℕ) (row' : UnitRow) (r : Result (Unit {0}) Refusal) → first_of (power_faults energy) ≡ None
       → Tried ((28, not (is_open (entry_of row))) ∷ []) (broken_at ok u energy (entry_of row)) (kind_in (entry_of row)) (option_map (on_interval (with_energy energy)) (entry_of row)) row row' r
       → Turn allowed s (Energy pass energy) (done r) (with_rows s (set s.rows u row'))
-  energy-turn energy row' r power tried = subst (λ (p : PassNumbers). Turn allowed s (Energy p energy) (done r) (with_rows s (set s.rows u row'))) is_pass
-      (by-trial allowed s (Energy found energy) refl u d row' l (broken_at ok u energy) (option_map (on_interval (with_energy energy))) refl (λ answer h. h) refl r ((28, not (is_open (entry_of row))) ∷ [])
-      (first_skip (power_faults energy) (pass_faults (view_of s) found) power ∙ known' ∙ sym none) (energy-shows ok u row energy) tried)
+  energy_turn energy row' r power tried = subst (λ (p : PassNumbers). Turn allowed s (Energy p energy) (done r) (with_rows s (set s.rows u row'))) is_pass
+      (by_trial allowed s (Energy found energy) refl u d row' l (broken_at ok u energy) (option_map (on_interval (with_energy energy))) refl (λ answer h. h) refl r ((28, not (is_open (entry_of row))) ∷ [])
+      (first_skip (power_faults energy) (pass_faults (view_of s) found) power ∙ known' ∙ sym none) (energy_shows ok u row energy) tried)
     where
       none : first_of ((28, not (is_open (entry_of row))) ∷ []) ≡ None
       none = rw opened refl
 
-  pub amount-turn : (service a : ℕ) (row' : UnitRow) (r : Result (Unit {0}) Refusal) → first_of (service_faults service) ≡ None → first_of (power_faults a) ≡ None
+  pub amount_turn : (service a : ℕ) (row' : UnitRow) (r : Result (Unit {0}) Refusal) → first_of (service_faults service) ≡ None → first_of (power_faults a) ≡ None
       → Tried (held_faults (entry_of row) ++ ((30, not (is_live service (entry_of row))) ∷ [])) (broken_with ok u service a (entry_of row)) (kind_in (entry_of row)) (option_map (on_interval (with_amount_of service a)) (entry_of row)) row row' r
       → Turn allowed s (Amount pass service a) (done r) (with_rows s (set s.rows u row'))
-  amount-turn service a row' r number power tried = subst (λ (p : PassNumbers). Turn allowed s (Amount p service a) (done r) (with_rows s (set s.rows u row'))) is_pass
-      (by-trial allowed s (Amount found service a) refl u d row' l (broken_with ok u service a) (option_map (on_interval (with_amount_of service a))) refl (λ answer h. h) refl r (held_faults (entry_of row) ++ ((30, not (is_live service (entry_of row))) ∷ []))
-      (first_skip (service_faults service) (power_faults a ++ passed (λ x. (30, not (is_live service x)) ∷ [])) number ∙ first_skip (power_faults a) (passed (λ x. (30, not (is_live service x)) ∷ [])) power ∙ held_left (λ x. (30, not (is_live service x)) ∷ [])) (amount-shows ok u row service a) tried)
+  amount_turn service a row' r number power tried = subst (λ (p : PassNumbers). Turn allowed s (Amount p service a) (done r) (with_rows s (set s.rows u row'))) is_pass
+      (by_trial allowed s (Amount found service a) refl u d row' l (broken_with ok u service a) (option_map (on_interval (with_amount_of service a))) refl (λ answer h. h) refl r (held_faults (entry_of row) ++ ((30, not (is_live service (entry_of row))) ∷ []))
+      (first_skip (service_faults service) (power_faults a ++ passed (λ x. (30, not (is_live service x)) ∷ [])) number ∙ first_skip (power_faults a) (passed (λ x. (30, not (is_live service x)) ∷ [])) power ∙ held_left (λ x. (30, not (is_live service x)) ∷ [])) (amount_shows ok u row service a) tried)
 
-  pub abandon-turn : (row' : UnitRow) (r : Result (Unit {0}) Refusal)
+  pub abandon_turn : (row' : UnitRow) (r : Result (Unit {0}) Refusal)
       → Lent ((22, not (is_some (entry_of row))) ∷ (27, not (is_open (entry_of row))) ∷ []) (option_map (with_interval None) (entry_of row)) row row' r
       → Turn allowed s (Abandon pass) (done r) (with_rows s (set s.rows u row'))
-  abandon-turn row' (Ok x) turn = subst (λ (p : PassNumbers). Turn allowed s (Abandon p) Done (with_rows s (set s.rows u row'))) is_pass
+  abandon_turn row' (Ok x) turn = subst (λ (p : PassNumbers). Turn allowed s (Abandon p) Done (with_rows s (set s.rows u row'))) is_pass
       (heeded allowed s (Abandon found) Done (lent allowed s u d row' l) known' (none_breaks (λ _. false) (λ _. refl)) refl (λ _. refl) (lent_view allowed s u d row' l _ (turn.1 ∙ ap (option_map (with_interval None)) (sym at))) refl)
-  abandon-turn row' (Err refusal) turn = absurd (never (entry_of row) opened turn.0)
+  abandon_turn row' (Err refusal) turn = absurd (never (entry_of row) opened turn.0)
     where
       never : (entry : Option Entry) → is_open entry ≡ true → option_map plain (first_of ((22, not (is_some entry)) ∷ (27, not (is_open entry)) ∷ [])) ≡ Some (told refusal) → ⊥
       never None o e = let clash : ◌≡◌ {A = ℕ} 0 1 = cc in omega arith
@@ -107,43 +107,43 @@ module _ {P : Type 0} (allowed : P → Row → Bool) (s : Station P) (pass : Pas
   figure_checks : (service : ℕ) → first_of (service_faults service) ≡ None → first_of (checks (view_of s) (FigureCall found service)) ≡ first_of (held_faults (entry_of row))
   figure_checks service number = first_skip (service_faults service) (passed (λ _. [])) number ∙ held_left (λ _. [])
 
-  pub figure-refused : (service : ℕ) (r : Result Figure Refusal) (refusal : Refusal) → first_of (service_faults service) ≡ None → IsErrAnd r (λ e. e ≡ refusal) → (BearsRow ok u (entry_of row) → Refuses (held_faults (entry_of row)) refusal)
+  pub figure_refused : (service : ℕ) (r : Result Figure Refusal) (refusal : Refusal) → first_of (service_faults service) ≡ None → IsErrAnd r (λ e. e ≡ refusal) → (BearsRow ok u (entry_of row) → Refuses (held_faults (entry_of row)) refusal)
       → Turn allowed s (FigureCall pass service) (figured r) s
-  figure-refused service r refusal number said refuses = subst (λ (p : PassNumbers). Turn allowed s (FigureCall p service) (figured r) s) is_pass
-      (under_rests allowed s (FigureCall found service) (figured r) s (λ _. refl) refl (λ bears. by-refusal allowed s (FigureCall found service) refl figured (λ _. refl) r (told refusal) (same_told r refusal said)
+  figure_refused service r refusal number said refuses = subst (λ (p : PassNumbers). Turn allowed s (FigureCall p service) (figured r) s) is_pass
+      (under_rests allowed s (FigureCall found service) (figured r) s (λ _. refl) refl (λ bears. by_refusal allowed s (FigureCall found service) refl figured (λ _. refl) r (told refusal) (same_told r refusal said)
       (ap (option_map plain) (figure_checks service number) ∙ refuses (bears_row bears))))
 
-  pub figure-turn : (service : ℕ) (given : Figure) → first_of (service_faults service) ≡ None → (BearsRow ok u (entry_of row) → (first_of (held_faults (entry_of row)) ≡ None) × FigureIn ok u service (entry_of row) given)
+  pub figure_turn : (service : ℕ) (given : Figure) → first_of (service_faults service) ≡ None → (BearsRow ok u (entry_of row) → (first_of (held_faults (entry_of row)) ≡ None) × FigureIn ok u service (entry_of row) given)
       → Turn allowed s (FigureCall pass service) (Figured given) s
-  figure-turn service given number gives = subst (λ (p : PassNumbers). Turn allowed s (FigureCall p service) (Figured given) s) is_pass
+  figure_turn service given number gives = subst (λ (p : PassNumbers). Turn allowed s (FigureCall p service) (Figured given) s) is_pass
       (under_rests allowed s (FigureCall found service) (Figured given) s (λ _. refl) refl (λ bears. heeded allowed s (FigureCall found service) (Figured given) s (figure_checks service number ∙ (gives (bears_row bears)).0) (none_breaks (λ _. false) (λ _. refl)) refl
       (λ _. subst (λ (x : Option Entry). FigureIn ok u service x given) (sym at) (gives (bears_row bears)).1) refl refl))
 
-  pub probe-turn : (service energy : ℕ) (given : Option Figure) → first_of (service_faults service) ≡ None → first_of (power_faults energy) ≡ None → (is_open (entry_of row) ≡ true → ProbedIn ok u service energy (entry_of row) given)
+  pub probe_turn : (service energy : ℕ) (given : Option Figure) → first_of (service_faults service) ≡ None → first_of (power_faults energy) ≡ None → (is_open (entry_of row) ≡ true → ProbedIn ok u service energy (entry_of row) given)
       → Turn allowed s (Probe pass service energy) (Probed given) s
-  probe-turn service energy given number power gives = subst (λ (p : PassNumbers). Turn allowed s (Probe p service energy) (Probed given) s) is_pass
+  probe_turn service energy given number power gives = subst (λ (p : PassNumbers). Turn allowed s (Probe p service energy) (Probed given) s) is_pass
       (heeded allowed s (Probe found service energy) (Probed given) s (first_skip (service_faults service) (power_faults energy ++ pass_faults (view_of s) found) number ∙ first_skip (power_faults energy) (pass_faults (view_of s) found) power ∙ known') (none_breaks (λ _. false) (λ _. refl)) refl
       (λ _. subst (λ (x : Option Entry). ProbedIn ok u service energy x given) (sym at) (gives opened)) refl refl)
 
-  pub trapezium-turn : (service : ℕ) (given : Option Trapezium) → first_of (service_faults service) ≡ None → (is_open (entry_of row) ≡ true → given ≡ trapezium_in service (entry_of row))
+  pub trapezium_turn : (service : ℕ) (given : Option Trapezium) → first_of (service_faults service) ≡ None → (is_open (entry_of row) ≡ true → given ≡ trapezium_in service (entry_of row))
       → Turn allowed s (TrapeziumCall pass service) (Scaled given) s
-  trapezium-turn service given number gives = subst (λ (p : PassNumbers). Turn allowed s (TrapeziumCall p service) (Scaled given) s) is_pass
+  trapezium_turn service given number gives = subst (λ (p : PassNumbers). Turn allowed s (TrapeziumCall p service) (Scaled given) s) is_pass
       (heeded allowed s (TrapeziumCall found service) (Scaled given) s (first_skip (service_faults service) (pass_faults (view_of s) found) number ∙ known') (none_breaks (λ _. false) (λ _. refl)) refl
       (λ _. ap {B = Answer} Scaled (gives opened ∙ ap (trapezium_in service) (sym at))) refl refl)
 
   close_checks : (places : ℕ) → first_of ((8, ltb places 10) ∷ []) ≡ None → first_of (checks (view_of s) (Close found places)) ≡ first_of (held_faults (entry_of row))
   close_checks places enough = first_skip ((8, ltb places 10) ∷ []) (passed (λ _. [])) enough ∙ held_left (λ _. [])
 
-  pub close-refused : (places : ℕ) (refusal : Refusal) → first_of ((8, ltb places 10) ∷ []) ≡ None → (BearsRow ok u (entry_of row) → Refuses (held_faults (entry_of row)) refusal)
+  pub close_refused : (places : ℕ) (refusal : Refusal) → first_of ((8, ltb places 10) ∷ []) ≡ None → (BearsRow ok u (entry_of row) → Refuses (held_faults (entry_of row)) refusal)
       → Turn allowed s (Close pass places) (Returned refusal pass) s
-  close-refused places refusal enough refuses = subst (λ (p : PassNumbers). Turn allowed s (Close p places) (Returned refusal p) s) is_pass
-      (under_rests allowed s (Close found places) (Returned refusal found) s (λ _. refl) refl (λ bears. turned-away allowed s (Close found places) (Returned refusal found) (told refusal) refl refl
+  close_refused places refusal enough refuses = subst (λ (p : PassNumbers). Turn allowed s (Close p places) (Returned refusal p) s) is_pass
+      (under_rests allowed s (Close found places) (Returned refusal found) s (λ _. refl) refl (λ bears. turned_away allowed s (Close found places) (Returned refusal found) (told refusal) refl refl
       (ap (option_map plain) (close_checks places enough) ∙ refuses (bears_row bears))))
 
-  pub close-turn : (places : ℕ) (row' : UnitRow) (table : List Figure) → first_of ((8, ltb places 10) ∷ []) ≡ None → length table ≡ 10
+  pub close_turn : (places : ℕ) (row' : UnitRow) (table : List Figure) → first_of ((8, ltb places 10) ∷ []) ≡ None → length table ≡ 10
       → (BearsRow ok u (entry_of row) → (first_of (held_faults (entry_of row)) ≡ None) × ((service : ℕ) → service < 10 → FigureIn ok u service (entry_of row) (get_or table service no_figure)) × (entry_of row' ≡ option_map (with_interval None) (entry_of row)))
       → Turn allowed s (Close pass places) (Closed table) (with_rows s (set s.rows u row'))
-  close-turn places row' table enough ten gives = subst (λ (p : PassNumbers). Turn allowed s (Close p places) (Closed table) (with_rows s (set s.rows u row'))) is_pass
+  close_turn places row' table enough ten gives = subst (λ (p : PassNumbers). Turn allowed s (Close p places) (Closed table) (with_rows s (set s.rows u row'))) is_pass
       (under_rests allowed s (Close found places) (Closed table) (lent allowed s u d row' l) (λ e. let clash : ◌≡◌ {A = ℕ} 0 1 = cc in absurd (omega arith)) refl (λ bears.
       heeded allowed s (Close found places) (Closed table) (lent allowed s u d row' l) (close_checks places enough ∙ (gives (bears_row bears)).0) (none_breaks (λ _. false) (λ _. refl)) refl
       (λ _. (ten, λ service k. subst (λ (x : Option Entry). FigureIn ok u service x (get_or table service no_figure)) (sym at) ((gives (bears_row bears)).1 service k)))
@@ -151,20 +151,20 @@ module _ {P : Type 0} (allowed : P → Row → Bool) (s : Station P) (pass : Pas
 
 -- a pass that is not known
 module _ {P : Type 0} (allowed : P → Row → Bool) (s : Station P) (pass : PassNumbers) where
-  pub unknown-amount : (service a : ℕ) (r : Result (Unit {0}) Refusal) (refusal : Refusal) → first_of (service_faults service) ≡ None → first_of (power_faults a) ≡ None → IsErrAnd r (λ e. e ≡ refusal) → Refuses (pass_faults (view_of s) pass) refusal
+  pub unknown_amount : (service a : ℕ) (r : Result (Unit {0}) Refusal) (refusal : Refusal) → first_of (service_faults service) ≡ None → first_of (power_faults a) ≡ None → IsErrAnd r (λ e. e ≡ refusal) → Refuses (pass_faults (view_of s) pass) refusal
       → Turn allowed s (Amount pass service a) (done r) s
-  unknown-amount service a r refusal number power said refuses =
+  unknown_amount service a r refusal number power said refuses =
       let rest = energy_faults (view_of s) pass ++ ((30, not (is_live service (unit_at (view_of s) pass.unit))) ∷ []) in
-      by-refusal allowed s (Amount pass service a) refl done (λ _. refl) r (told refusal) (same_told r refusal said)
+      by_refusal allowed s (Amount pass service a) refl done (λ _. refl) r (told refusal) (same_told r refusal said)
       (ap (option_map plain) (first_skip (service_faults service) (power_faults a ++ pass_faults (view_of s) pass ++ rest) number ∙ first_skip (power_faults a) (pass_faults (view_of s) pass ++ rest) power) ∙ refused_early (pass_faults (view_of s) pass) rest refusal refuses)
 
-  pub unknown-figure : (service : ℕ) (r : Result Figure Refusal) (refusal : Refusal) → first_of (service_faults service) ≡ None → IsErrAnd r (λ e. e ≡ refusal) → Refuses (pass_faults (view_of s) pass) refusal
+  pub unknown_figure : (service : ℕ) (r : Result Figure Refusal) (refusal : Refusal) → first_of (service_faults service) ≡ None → IsErrAnd r (λ e. e ≡ refusal) → Refuses (pass_faults (view_of s) pass) refusal
       → Turn allowed s (FigureCall pass service) (figured r) s
-  unknown-figure service r refusal number said refuses = by-refusal allowed s (FigureCall pass service) refl figured (λ _. refl) r (told refusal) (same_told r refusal said)
+  unknown_figure service r refusal number said refuses = by_refusal allowed s (FigureCall pass service) refl figured (λ _. refl) r (told refusal) (same_told r refusal said)
       (ap (option_map plain) (first_skip (service_faults service) (pass_faults (view_of s) pass ++ energy_faults (view_of s) pass) number) ∙ refused_early (pass_faults (view_of s) pass) (energy_faults (view_of s) pass) refusal refuses)
 
-  pub unknown-close : (places : ℕ) (refusal : Refusal) → first_of ((8, ltb places 10) ∷ []) ≡ None → Refuses (pass_faults (view_of s) pass) refusal → Turn allowed s (Close pass places) (Returned refusal pass) s
-  unknown-close places refusal enough refuses = turned-away allowed s (Close pass places) (Returned refusal pass) (told refusal) refl refl
+  pub unknown_close : (places : ℕ) (refusal : Refusal) → first_of ((8, ltb places 10) ∷ []) ≡ None → Refuses (pass_faults (view_of s) pass) refusal → Turn allowed s (Close pass places) (Returned refusal pass) s
+  unknown_close places refusal enough refuses = turned_away allowed s (Close pass places) (Returned refusal pass) (told refusal) refl refl
       (ap (option_map plain) (first_skip ((8, ltb places 10) ∷ []) (pass_faults (view_of s) pass ++ energy_faults (view_of s) pass) enough) ∙ refused_early (pass_faults (view_of s) pass) (energy_faults (view_of s) pass) refusal refuses)
 
 -- what `?` makes of a refused close

@@ -102,25 +102,25 @@ amount_in (OpenWithEnergy serial energy) kind bids reading amounts service a = r
 
 -- the calls of an interval, at a row whose limits are asked about
 module _ (allowed : Row → Bool) (row : UnitRow) (unit : ℕ) where
-  abbrev fixedTerms : Terms
-  fixedTerms = terms_of row.kind (held_bids row.bids) row.reading.measured
+  abbrev fixed_terms : Terms
+  fixed_terms = terms_of row.kind (held_bids row.bids) row.reading.measured
 
   abbrev EnergyTried : ℕ → UnitRow → Result (Unit {0}) Refusal → Type 0
   EnergyTried energy after = Tried ((28, not (is_open (entry_of row))) ∷ []) (broken_at allowed unit energy (entry_of row)) (kind_in (entry_of row)) (option_map (on_interval (with_energy energy)) (entry_of row)) row after
 
-  pub energy-refused : (n : State) (energy : ℕ) (refusal : Refusal) (asked : Row) → Ok n ≡ stepped row.state (Energy energy) → asked ≡ plant_row unit energy row
+  pub energy_refused : (n : State) (energy : ℕ) (refusal : Refusal) (asked : Row) → Ok n ≡ stepped row.state (Energy energy) → asked ≡ plant_row unit energy row
       → Named (breaks allowed row.terms.terms asked) row.kind (told refusal) → EnergyTried energy row (Err refusal)
-  energy-refused n energy refusal asked e is named =
+  energy_refused n energy refusal asked e is named =
       let o = (takes_energy row.state n energy e).0 in
-      let named' = subst (λ (r : Row). Named (breaks allowed fixedTerms r) row.kind (told refusal)) is (subst (λ (t : Terms). Named (breaks allowed t asked) row.kind (told refusal)) (terms_fixed row o) named) in
+      let named' = subst (λ (r : Row). Named (breaks allowed fixed_terms r) row.kind (told refusal)) is (subst (λ (t : Terms). Named (breaks allowed t asked) row.kind (told refusal)) (terms_fixed row o) named) in
       (subst (λ (x : Option Entry). Declines (first_of ((28, not (is_open x)) ∷ [])) (broken_at allowed unit energy x) (kind_in x) (told refusal)) (sym (entry_open row o)) named', refl)
 
-  pub energy-taken : (n : State) (energy : ℕ) (asked : Row) → Ok n ≡ stepped row.state (Energy energy) → asked ≡ plant_row unit energy row
+  pub energy_taken : (n : State) (energy : ℕ) (asked : Row) → Ok n ≡ stepped row.state (Energy energy) → asked ≡ plant_row unit energy row
       → Borne (breaks allowed row.terms.terms asked)
       → (first_of ((28, not (is_open (entry_of row))) ∷ []) ≡ None) × Borne (broken_at allowed unit energy (entry_of row)) × (entry_in n row.kind (held_bids row.bids) row.reading.measured row.amounts ≡ option_map (on_interval (with_energy energy)) (entry_of row))
-  energy-taken n energy asked e is borne =
+  energy_taken n energy asked e is borne =
       let o = (takes_energy row.state n energy e).0 in
-      let borne' : Borne (breaks allowed fixedTerms (plant_row unit energy row)) = subst (λ (r : Row). Borne (breaks allowed fixedTerms r)) is (subst (λ (t : Terms). Borne (breaks allowed t asked)) (terms_fixed row o) borne) in
+      let borne' : Borne (breaks allowed fixed_terms (plant_row unit energy row)) = subst (λ (r : Row). Borne (breaks allowed fixed_terms r)) is (subst (λ (t : Terms). Borne (breaks allowed t asked)) (terms_fixed row o) borne) in
       subst (λ (x : Option Entry). (first_of ((28, not (is_open x)) ∷ []) ≡ None) × Borne (broken_at allowed unit energy x) × (entry_in n row.kind (held_bids row.bids) row.reading.measured row.amounts ≡ option_map (on_interval (with_energy energy)) x))
       (sym (entry_open row o)) (refl, borne', rw (takes_energy row.state n energy e).1 refl)
 
@@ -131,58 +131,58 @@ module _ (allowed : Row → Bool) (row : UnitRow) (unit : ℕ) where
     is_opened : entry_of row ≡ Some (open_entry row)
     is_opened = entry_open row (row_held row none).0
 
-    fixed : row.terms.terms ≡ fixedTerms
+    fixed : row.terms.terms ≡ fixed_terms
     fixed = terms_fixed row (row_held row none).0
 
     module _ (service a : ℕ) where
-      abbrev amountFaults : Option Entry → List Finding
-      amountFaults entry = held_faults entry ++ ((30, not (is_live service entry)) ∷ [])
+      abbrev amount_faults : Option Entry → List Finding
+      amount_faults entry = held_faults entry ++ ((30, not (is_live service entry)) ∷ [])
 
       abbrev AmountTried : UnitRow → Result (Unit {0}) Refusal → Type 0
-      AmountTried after = Tried (amountFaults (entry_of row)) (broken_with allowed unit service a (entry_of row)) (kind_in (entry_of row)) (option_map (on_interval (with_amount_of service a)) (entry_of row)) row after
+      AmountTried after = Tried (amount_faults (entry_of row)) (broken_with allowed unit service a (entry_of row)) (kind_in (entry_of row)) (option_map (on_interval (with_amount_of service a)) (entry_of row)) row after
 
-      faults_by : (live : Bool) → (offer_at row.terms.terms service).live ≡ live → first_of (amountFaults (entry_of row)) ≡ cond (not live) (Some 30) None
+      faults_by : (live : Bool) → (offer_at row.terms.terms service).live ≡ live → first_of (amount_faults (entry_of row)) ≡ cond (not live) (Some 30) None
       faults_by live l =
-          let l' : (offer_at fixedTerms service).live ≡ live = subst (λ (t : Terms). (offer_at t service).live ≡ live) fixed l in
-          subst (λ (x : Option Entry). first_of (amountFaults x) ≡ cond (not live) (Some 30) None) (sym is_opened) (rw ((row_held row none).1, l') refl)
+          let l' : (offer_at fixed_terms service).live ≡ live = subst (λ (t : Terms). (offer_at t service).live ≡ live) fixed l in
+          subst (λ (x : Option Entry). first_of (amount_faults x) ≡ cond (not live) (Some 30) None) (sym is_opened) (rw ((row_held row none).1, l') refl)
 
-      pub amount-not-live : (offer_at row.terms.terms service).live ≡ false → AmountTried row (Err NotLive)
-      amount-not-live l = (subst (λ (x : Option ℕ). Declines x (broken_with allowed unit service a (entry_of row)) (kind_in (entry_of row)) (plain 30)) (sym (faults_by false l)) refl, refl)
+      pub amount_not_live : (offer_at row.terms.terms service).live ≡ false → AmountTried row (Err NotLive)
+      amount_not_live l = (subst (λ (x : Option ℕ). Declines x (broken_with allowed unit service a (entry_of row)) (kind_in (entry_of row)) (plain 30)) (sym (faults_by false l)) refl, refl)
 
       module _ (live : (offer_at row.terms.terms service).live ≡ true) (asked : Row) (is : asked ≡ with_amount (plant_row unit (energy_of row.state) row) service a) where
         asked_row : asked ≡ with_amount (held_row unit (open_entry row) (interval_of row)) service a
         asked_row = is ∙ ap (λ (r : Row). with_amount r service a) held_row_lem
 
-        pub amount-refused : (refusal : Refusal) → Named (breaks allowed row.terms.terms asked) row.kind (told refusal) → AmountTried row (Err refusal)
-        amount-refused refusal named =
-            let named' = subst (λ (r : Row). Named (breaks allowed fixedTerms r) row.kind (told refusal)) asked_row (subst (λ (t : Terms). Named (breaks allowed t asked) row.kind (told refusal)) fixed named) in (
+        pub amount_refused : (refusal : Refusal) → Named (breaks allowed row.terms.terms asked) row.kind (told refusal) → AmountTried row (Err refusal)
+        amount_refused refusal named =
+            let named' = subst (λ (r : Row). Named (breaks allowed fixed_terms r) row.kind (told refusal)) asked_row (subst (λ (t : Terms). Named (breaks allowed t asked) row.kind (told refusal)) fixed named) in (
               subst (λ (x : Option ℕ). Declines x (broken_with allowed unit service a (entry_of row)) (kind_in (entry_of row)) (told refusal)) (sym (faults_by true live))
                   (subst (λ (x : Option Entry). Named (broken_with allowed unit service a x) (kind_in x) (told refusal)) (sym is_opened) named'),
               refl,
             )
 
-        pub amount-taken : Borne (breaks allowed row.terms.terms asked)
-            → (first_of (amountFaults (entry_of row)) ≡ None) × Borne (broken_with allowed unit service a (entry_of row)) × (entry_in row.state row.kind (held_bids row.bids) row.reading.measured (set row.amounts service a) ≡ option_map (on_interval (with_amount_of service a)) (entry_of row))
-        amount-taken borne = (
+        pub amount_taken : Borne (breaks allowed row.terms.terms asked)
+            → (first_of (amount_faults (entry_of row)) ≡ None) × Borne (broken_with allowed unit service a (entry_of row)) × (entry_in row.state row.kind (held_bids row.bids) row.reading.measured (set row.amounts service a) ≡ option_map (on_interval (with_amount_of service a)) (entry_of row))
+        amount_taken borne = (
           faults_by true live,
-          subst (λ (x : Option Entry). Borne (broken_with allowed unit service a x)) (sym is_opened) (subst (λ (r : Row). Borne (breaks allowed fixedTerms r)) asked_row (subst (λ (t : Terms). Borne (breaks allowed t asked)) fixed borne)),
+          subst (λ (x : Option Entry). Borne (broken_with allowed unit service a x)) (sym is_opened) (subst (λ (r : Row). Borne (breaks allowed fixed_terms r)) asked_row (subst (λ (t : Terms). Borne (breaks allowed t asked)) fixed borne)),
           amount_in row.state row.kind (held_bids row.bids) row.reading.measured row.amounts service a,
         )
 
     module _ (asked : Row) (is : asked ≡ plant_row unit (energy_of row.state) row) where
-      pub is-borne : BearsRow allowed unit (entry_of row) → Borne (breaks allowed row.terms.terms asked)
-      is-borne bears = subst (λ (t : Terms). Borne (breaks allowed t asked)) (sym fixed) (subst (λ (r : Row). Borne (breaks allowed fixedTerms r)) (sym (is ∙ held_row_lem))
+      pub is_borne : BearsRow allowed unit (entry_of row) → Borne (breaks allowed row.terms.terms asked)
+      is_borne bears = subst (λ (t : Terms). Borne (breaks allowed t asked)) (sym fixed) (subst (λ (r : Row). Borne (breaks allowed fixed_terms r)) (sym (is ∙ held_row_lem))
           (subst (BearsRow allowed unit) is_opened bears (row_held row none).1))
 
-      pub figure-given : (service : ℕ) (given : Figure) → FigureAt allowed row.terms.terms asked service given → FigureIn allowed unit service (entry_of row) given
-      figure-given service given f = subst (λ (x : Option Entry). FigureIn allowed unit service x given) (sym is_opened)
-          (subst (λ (r : Row). FigureAt allowed fixedTerms r service given) (is ∙ held_row_lem) (subst (λ (t : Terms). FigureAt allowed t asked service given) fixed f))
+      pub figure_given : (service : ℕ) (given : Figure) → FigureAt allowed row.terms.terms asked service given → FigureIn allowed unit service (entry_of row) given
+      figure_given service given f = subst (λ (x : Option Entry). FigureIn allowed unit service x given) (sym is_opened)
+          (subst (λ (r : Row). FigureAt allowed fixed_terms r service given) (is ∙ held_row_lem) (subst (λ (t : Terms). FigureAt allowed t asked service given) fixed f))
 
-  pub probe-given : (service energy : ℕ) (asked : Row) (given : Option Figure) → asked ≡ plant_row unit energy row → Probed allowed row.terms.terms asked service given → is_open (entry_of row) ≡ true → ProbedIn allowed unit service energy (entry_of row) given
-  probe-given service energy asked given is p o =
+  pub probe_given : (service energy : ℕ) (asked : Row) (given : Option Figure) → asked ≡ plant_row unit energy row → Probed allowed row.terms.terms asked service given → is_open (entry_of row) ≡ true → ProbedIn allowed unit service energy (entry_of row) given
+  probe_given service energy asked given is p o =
       let o' = row_open row o in
       subst (λ (x : Option Entry). ProbedIn allowed unit service energy x given) (sym (entry_open row o'))
-      (subst (λ (r : Row). Probed allowed fixedTerms r service given) is (subst (λ (t : Terms). Probed allowed t asked service given) (terms_fixed row o') p))
+      (subst (λ (r : Row). Probed allowed fixed_terms r service given) is (subst (λ (t : Terms). Probed allowed t asked service given) (terms_fixed row o') p))
 
 pub trapezium_given : (row : UnitRow) (service : ℕ) (given : Option Trapezium) → given ≡ option_map (λ bid. trapezium_of row.kind service bid row.reading.measured) (get_or (held_bids row.bids) service None) → is_open (entry_of row) ≡ true → given ≡ trapezium_in service (entry_of row)
 trapezium_given row service given is o = subst (λ (x : Option Entry). given ≡ trapezium_in service x) (sym (entry_open row (row_open row o))) is

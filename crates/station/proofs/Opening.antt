@@ -23,14 +23,14 @@ use Rattle.station.specs.declared.station.Station.{Station}
 use Rattle.station.proofs.ByPass.{same_told}
 use Rattle.station.proofs.Firsts.{first_skip, first_stop}
 use Rattle.station.proofs.Opens.{faults_of}
-use Rattle.station.proofs.Turns.{by-refusal, heeded, lent_same, lent_view, none_breaks, unit-is, with_rows}
+use Rattle.station.proofs.Turns.{by_refusal, heeded, lent_same, lent_view, none_breaks, unit_is, with_rows}
 
 module _ {P : Type 0} (allowed : P → Row → Bool) (s : Station P) (u : ℕ) (reading : Reading) (number : first_of (unit_faults u) ≡ None) where
   abbrev rest : List Finding
   rest = faults_of (measured_of reading) s.next (unit_at (view_of s) u)
 
-  pub reading-refused : (r : Result Pass Refusal) (n : ℕ) → IsErrAnd r (λ refusal. told refusal ≡ plain n) → first_of (reading_faults reading) ≡ Some n → Turn allowed s (Open u reading) (opened_by r) s
-  reading-refused r n said e = by-refusal allowed s (Open u reading) refl opened_by (λ _. refl) r (plain n) said
+  pub reading_refused : (r : Result Pass Refusal) (n : ℕ) → IsErrAnd r (λ refusal. told refusal ≡ plain n) → first_of (reading_faults reading) ≡ Some n → Turn allowed s (Open u reading) (opened_by r) s
+  reading_refused r n said e = by_refusal allowed s (Open u reading) refl opened_by (λ _. refl) r (plain n) said
       (ap (option_map plain) (first_skip (unit_faults u) (reading_faults reading ++ rest) number ∙ first_stop (reading_faults reading) rest n e))
 
   module _ (d row' : UnitRow) (l : u < length s.rows) (m : Measured) (is : m ≡ measured_of reading) (good : first_of (reading_faults reading) ≡ None) where
@@ -38,16 +38,16 @@ module _ {P : Type 0} (allowed : P → Row → Bool) (s : Station P) (u : ℕ) (
     row = get_or s.rows u d
 
     at : unit_at (view_of s) u ≡ entry_of row
-    at = unit-is allowed s u d row' l
+    at = unit_is allowed s u d row' l
 
     left : first_of (checks (view_of s) (Open u reading)) ≡ first_of (faults_of m s.next (entry_of row))
     left = first_skip (unit_faults u) (reading_faults reading ++ rest) number ∙ first_skip (reading_faults reading) rest good
         ∙ ap (λ (x : Option Entry). first_of (faults_of (measured_of reading) s.next x)) at ∙ ap (λ (x : Measured). first_of (faults_of x s.next (entry_of row))) (sym is)
 
-    pub open-refused : (r : Result Pass Refusal) (refusal : Refusal) → IsErrAnd r (λ e. e ≡ refusal) → Refuses (faults_of m s.next (entry_of row)) refusal → row' ≡ row
+    pub open_refused : (r : Result Pass Refusal) (refusal : Refusal) → IsErrAnd r (λ e. e ≡ refusal) → Refuses (faults_of m s.next (entry_of row)) refusal → row' ≡ row
         → Turn allowed s (Open u reading) (opened_by r) (with_rows s (set s.rows u row'))
-    open-refused r refusal said refuses kept = subst (Turn allowed s (Open u reading) (opened_by r)) (sym (lent_same allowed s u d row' l kept))
-        (by-refusal allowed s (Open u reading) refl opened_by (λ _. refl) r (told refusal) (same_told r refusal said) (ap (option_map plain) left ∙ refuses))
+    open_refused r refusal said refuses kept = subst (Turn allowed s (Open u reading) (opened_by r)) (sym (lent_same allowed s u d row' l kept))
+        (by_refusal allowed s (Open u reading) refl opened_by (λ _. refl) r (told refusal) (same_told r refusal said) (ap (option_map plain) left ∙ refuses))
 
     pub open_turn : (pass : PassNumbers) → pass ≡ record { station = s.number; unit = u; serial = s.next } → first_of (faults_of m s.next (entry_of row)) ≡ None → entry_of row' ≡ option_map (with_interval (Some (opened m s.next))) (entry_of row)
         → Turn allowed s (Open u reading) (Opened pass) (record { number = s.number; next = s.next + 1; rows = set s.rows u row'; plant = s.plant })

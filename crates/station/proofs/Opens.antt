@@ -46,16 +46,16 @@ opened_of reading next = option_map (with_interval (Some (opened reading next)))
 
 -- the same of a row
 module _ (row : UnitRow) (n : State) (reading : Measured) (next : ℕ) (e : Ok n ≡ stepped row.state (Opens next)) where
-  pub not-forecast : {X : Type 0} (r : Result X Refusal) (number : ℕ) → IsErrAnd r (λ refusal. told refusal ≡ plain number) → first_of (forecast_faults row.kind reading) ≡ Some number
+  pub not_forecast : {X : Type 0} (r : Result X Refusal) (number : ℕ) → IsErrAnd r (λ refusal. told refusal ≡ plain number) → first_of (forecast_faults row.kind reading) ≡ Some number
       → Lent (faults_of reading next (entry_of row)) (opened_of reading next (entry_of row)) row row r
-  not-forecast r number said f = refuses_by (faults_of reading next (entry_of row)) _ row r number said
+  not_forecast r number said f = refuses_by (faults_of reading next (entry_of row)) _ row r number said
       (forecast_missing row.state n row.kind (held_bids row.bids) row.reading.measured reading row.amounts next e number f)
 
   first_left : first_of (forecast_faults row.kind reading) ≡ None → first_of (faults_of reading next (entry_of row)) ≡ first_of ((25, eqb next 18446744073709551615) ∷ [])
   first_left f = none_missing row.state n row.kind (held_bids row.bids) row.reading.measured reading row.amounts next e f
 
-  pub no-serial : next ≡ 18446744073709551615 → first_of (forecast_faults row.kind reading) ≡ None → Lent {X = Unit {0}} (faults_of reading next (entry_of row)) (opened_of reading next (entry_of row)) row row (Err SerialsSpent)
-  no-serial last f =
+  pub no_serial : next ≡ 18446744073709551615 → first_of (forecast_faults row.kind reading) ≡ None → Lent {X = Unit {0}} (faults_of reading next (entry_of row)) (opened_of reading next (entry_of row)) row row (Err SerialsSpent)
+  no_serial last f =
       let said : first_of ((25, eqb next 18446744073709551615) ∷ []) ≡ Some 25 = rw (eq-eqb next 18446744073709551615 last) refl in
       (ap (option_map plain) (first_left f ∙ said), refl)
 
@@ -64,8 +64,8 @@ module _ (row : UnitRow) (n : State) (reading : Measured) (next : ℕ) (e : Ok n
       let none : first_of ((25, eqb next 18446744073709551615) ∷ []) ≡ None = rw (ne_eqb next 18446744073709551615 more) refl in
       first_left f ∙ none
 
-  pub is-opened : entry_in n row.kind (held_bids row.bids) reading (replicate 10 0) ≡ opened_of reading next (entry_of row)
-  is-opened = opened_row row.state n row.kind (held_bids row.bids) row.reading.measured reading row.amounts next e (replicate 10 0)
+  pub is_opened : entry_in n row.kind (held_bids row.bids) reading (replicate 10 0) ≡ opened_of reading next (entry_of row)
+  is_opened = opened_row row.state n row.kind (held_bids row.bids) row.reading.measured reading row.amounts next e (replicate 10 0)
 
-  pub no-energy : energy_of n ≤ 4000000
-  no-energy = rw (opens_idle row.state n next e).1 zero-le
+  pub no_energy : energy_of n ≤ 4000000
+  no_energy = rw (opens_idle row.state n next e).1 zero-le

@@ -27,8 +27,8 @@ module _ (number : ℕ) (rows : List UnitRow) (pass : PassNumbers) where
   abbrev under : Bool
   under = is_under pass.serial (unit_at book pass.unit)
 
-  pub other-station : (pass.station ≡ number → ⊥) → first_of (pass_faults book pass) ≡ Some 28
-  other-station ne = check_is (eqb pass.station number) under ∙ rw (ne_eqb pass.station number ne) refl
+  pub other_station : (pass.station ≡ number → ⊥) → first_of (pass_faults book pass) ≡ Some 28
+  other_station ne = check_is (eqb pass.station number) under ∙ rw (ne_eqb pass.station number ne) refl
 
   not_under : (b : Bool) → under ≡ false → first_of ((28, not (b && under)) ∷ []) ≡ Some 28
   not_under true e = rw e refl
@@ -38,8 +38,8 @@ module _ (number : ℕ) (rows : List UnitRow) (pass : PassNumbers) where
   no_unit l = not_under (eqb pass.station number) (ap (is_under pass.serial) (no_entry rows pass.unit l))
 
   module _ (d : UnitRow) (l : pass.unit < length rows) where
-    pub other-serial : is_under pass.serial (entry_of (get_or rows pass.unit d)) ≡ false → first_of (pass_faults book pass) ≡ Some 28
-    other-serial e = not_under (eqb pass.station number) (ap (is_under pass.serial) (entries_at rows pass.unit d l) ∙ e)
+    pub other_serial : is_under pass.serial (entry_of (get_or rows pass.unit d)) ≡ false → first_of (pass_faults book pass) ≡ Some 28
+    other_serial e = not_under (eqb pass.station number) (ap (is_under pass.serial) (entries_at rows pass.unit d l) ∙ e)
 
     pub known : pass.station ≡ number → is_under pass.serial (entry_of (get_or rows pass.unit d)) ≡ true → first_of (pass_faults book pass) ≡ None
     known same e =

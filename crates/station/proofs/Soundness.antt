@@ -11,7 +11,7 @@ use Rattle.station.specs.declared.call.Answer.{Answer}
 use Rattle.station.specs.declared.call.Call.{Call}
 use Rattle.station.specs.declared.row.UnitRow.{UnitRow}
 use Rattle.station.specs.declared.station.Station.{Station}
-use Rattle.station.proofs.Bearing.{bears-after, rests}
+use Rattle.station.proofs.Bearing.{bears_after, rests}
 
 -- a station just made
 no_unit : (n u : ℕ) → get_or {A = Option Entry} (replicate n None) u None ≡ None
@@ -47,7 +47,7 @@ follows {P} allowed s call answer next turn number first limit past sound =
       plant = turn.plant ∙ sound.plant;
       rows = both.1;
       answers = (both.0, sound.answers);
-      borne = bears-after (allowed limit) book sound.borne call answer both.0;
+      borne = bears_after (allowed limit) book sound.borne call answer both.0;
     }
 
 -- any chain of the calls' own promises

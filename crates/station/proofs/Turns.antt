@@ -59,8 +59,8 @@ module _ {P : Type 0} (allowed : P → Row → Bool) (s : Station P) (call : Cal
   ok = allowed s.plant
 
   -- refused by a check: the station is what it was
-  pub turned-away : (answer : Answer) (t : Told) → refusal_in answer ≡ Some t → pass_in answer ≡ handed_back call → option_map plain (first_of (checks (view_of s) call)) ≡ Some t → Turn allowed s call answer s
-  turned-away answer t says back e =
+  pub turned_away : (answer : Answer) (t : Told) → refusal_in answer ≡ Some t → pass_in answer ≡ handed_back call → option_map plain (first_of (checks (view_of s) call)) ≡ Some t → Turn allowed s call answer s
+  turned_away answer t says back e =
       let never : passes ok (view_of s) call ≡ false = rw (says_some (first_of (checks (view_of s) call)) t e) refl in
       record {
         right = λ _. record {
@@ -107,8 +107,8 @@ module _ {P : Type 0} (allowed : P → Row → Bool) (s : Station P) (u : ℕ) (
   abbrev pub lent : Station P
   lent = with_rows s (set s.rows u row')
 
-  pub unit-is : unit_at (view_of s) u ≡ entry_of (get_or s.rows u d)
-  unit-is = entries_at s.rows u d l
+  pub unit_is : unit_at (view_of s) u ≡ entry_of (get_or s.rows u d)
+  unit_is = entries_at s.rows u d l
 
   pub lent_view : (entry : Option Entry) → entry_of row' ≡ entry → view_of lent ≡ enter (view_of s) u entry
   lent_view entry e = ap (λ (units : List (Option Entry)). record { number = s.number; next = s.next; units = units }) (entries_set s.rows u row' ∙ ap (set (entries_of s.rows) u) e)
@@ -119,14 +119,14 @@ module _ {P : Type 0} (allowed : P → Row → Bool) (s : Station P) (u : ℕ) (
   module _ (call : Call) (front : List Finding) (rest : Option Entry → List Finding) (writes : Option Entry → Option Entry) (none : first_of front ≡ None)
       (checked : checks (view_of s) call ≡ front ++ rest (unit_at (view_of s) u)) (back : handed_back call ≡ None) where
     firsts : first_of (checks (view_of s) call) ≡ first_of (rest (entry_of (get_or s.rows u d)))
-    firsts = ap first_of checked ∙ first_skip front (rest (unit_at (view_of s) u)) none ∙ ap (λ (x : Option Entry). first_of (rest x)) unit-is
+    firsts = ap first_of checked ∙ first_skip front (rest (unit_at (view_of s) u)) none ∙ ap (λ (x : Option Entry). first_of (rest x)) unit_is
 
-    pub by-unit : (r : Result (Unit {0}) Refusal) → ((limit : Limit) → broken_by (allowed s.plant) (view_of s) call limit ≡ false) → Gives (allowed s.plant) (view_of s) call Done → written (view_of s) call ≡ enter (view_of s) u (writes (unit_at (view_of s) u))
+    pub by_unit : (r : Result (Unit {0}) Refusal) → ((limit : Limit) → broken_by (allowed s.plant) (view_of s) call limit ≡ false) → Gives (allowed s.plant) (view_of s) call Done → written (view_of s) call ≡ enter (view_of s) u (writes (unit_at (view_of s) u))
         → Lent (rest (entry_of (get_or s.rows u d))) (writes (entry_of (get_or s.rows u d))) (get_or s.rows u d) row' r → Turn allowed s call (done r) lent
-    by-unit (Ok x) borne gives writing turn = heeded allowed s call Done lent (firsts ∙ turn.0) (none_breaks _ borne) refl (λ _. gives)
-        (lent_view _ (turn.1 ∙ ap writes (sym unit-is)) ∙ sym writing) refl
-    by-unit (Err refusal) borne gives writing turn = subst (λ (t : Station P). Turn allowed s call (Refused refusal) t) (sym (lent_same turn.1))
-        (turned-away allowed s call (Refused refusal) (told refusal) refl (sym back) (ap (option_map plain) firsts ∙ turn.0))
+    by_unit (Ok x) borne gives writing turn = heeded allowed s call Done lent (firsts ∙ turn.0) (none_breaks _ borne) refl (λ _. gives)
+        (lent_view _ (turn.1 ∙ ap writes (sym unit_is)) ∙ sym writing) refl
+    by_unit (Err refusal) borne gives writing turn = subst (λ (t : Station P). Turn allowed s call (Refused refusal) t) (sym (lent_same turn.1))
+        (turned_away allowed s call (Refused refusal) (told refusal) refl (sym back) (ap (option_map plain) firsts ∙ turn.0))
 
 kind_numbered : (kind : Kind) → kind_of (kind_number kind) ≡ kind
 kind_numbered Generator = refl
@@ -144,11 +144,11 @@ under_rests allowed s call answer next same plant turn = record { right = λ res
 
 module _ {P : Type 0} (allowed : P → Row → Bool) (s : Station P) (call : Call) (back : handed_back call ≡ None) where
   -- what `?` makes of a refusal
-  pub by-refusal : {X : Type 0} (f : Result X Refusal → Answer) → ((refusal : Refusal) → f (Err refusal) ≡ Refused refusal) → (r : Result X Refusal) (t : Told) → IsErrAnd r (λ refusal. told refusal ≡ t)
+  pub by_refusal : {X : Type 0} (f : Result X Refusal → Answer) → ((refusal : Refusal) → f (Err refusal) ≡ Refused refusal) → (r : Result X Refusal) (t : Told) → IsErrAnd r (λ refusal. told refusal ≡ t)
       → option_map plain (first_of (checks (view_of s) call)) ≡ Some t → Turn allowed s call (f r) s
-  by-refusal f fits (Ok x) t said first = elim said [ ]
-  by-refusal f fits (Err refusal) t said first = subst (λ (answer : Answer). Turn allowed s call answer s) (sym (fits refusal))
-      (turned-away allowed s call (Refused refusal) (told refusal) refl (sym back) (first ∙ ap {B = Option Told} Some (sym said)))
+  by_refusal f fits (Ok x) t said first = elim said [ ]
+  by_refusal f fits (Err refusal) t said first = subst (λ (answer : Answer). Turn allowed s call answer s) (sym (fits refusal))
+      (turned_away allowed s call (Refused refusal) (told refusal) refl (sym back) (first ∙ ap {B = Option Told} Some (sym said)))
 
   -- a limit broke where every check passed
   pub limited : (refusal : Refusal) → first_of (checks (view_of s) call) ≡ None → some_breaks (broken_by (allowed s.plant) (view_of s) call) ≡ true → Gives (allowed s.plant) (view_of s) call (Refused refusal) → Turn allowed s call (Refused refusal) s
@@ -173,7 +173,7 @@ module _ {P : Type 0} (allowed : P → Row → Bool) (s : Station P) (call : Cal
     row = get_or s.rows u d
 
     at : unit_at (view_of s) u ≡ entry_of row
-    at = unit-is allowed s u d row' l
+    at = unit_is allowed s u d row' l
 
     settled : (answer : Answer) → Settles (broken (entry_of row)) (kind_in (entry_of row)) answer → Gives (allowed s.plant) (view_of s) call answer
     settled answer h = settles answer (subst (λ (x : Option Entry). Settles (broken x) (kind_in x) answer) (sym at) h)
@@ -182,13 +182,13 @@ module _ {P : Type 0} (allowed : P → Row → Bool) (s : Station P) (call : Cal
         → Declines o (broken (entry_of row)) (kind_in (entry_of row)) (told refusal) → Turn allowed s call (Refused refusal) s
     refused_by None refusal e some declines = limited refusal e
         (subst (λ (b : Limit → Bool). some_breaks b ≡ true) (sym (asks ∙ ap broken at)) (some declines.limit declines.first.here)) (settled (Refused refusal) declines)
-    refused_by (Some n) refusal e some declines = turned-away allowed s call (Refused refusal) (told refusal) refl (sym back) (ap (option_map plain) e ∙ ap {B = Option Told} Some (sym declines))
+    refused_by (Some n) refusal e some declines = turned_away allowed s call (Refused refusal) (told refusal) refl (sym back) (ap (option_map plain) e ∙ ap {B = Option Told} Some (sym declines))
 
     -- a call that asks for another row
-    pub by-trial : (r : Result (Unit {0}) Refusal) (faults : List Finding) → first_of (checks (view_of s) call) ≡ first_of faults → ((limit : Limit) → broken (entry_of row) limit ≡ true → some_breaks (broken (entry_of row)) ≡ true)
+    pub by_trial : (r : Result (Unit {0}) Refusal) (faults : List Finding) → first_of (checks (view_of s) call) ≡ first_of faults → ((limit : Limit) → broken (entry_of row) limit ≡ true → some_breaks (broken (entry_of row)) ≡ true)
         → Tried faults (broken (entry_of row)) (kind_in (entry_of row)) (writes (entry_of row)) row row' r → Turn allowed s call (done r) (with_rows s (set s.rows u row'))
-    by-trial (Ok x) faults e some tried = heeded allowed s call Done (lent allowed s u d row' l) (e ∙ tried.0)
+    by_trial (Ok x) faults e some tried = heeded allowed s call Done (lent allowed s u d row' l) (e ∙ tried.0)
         (subst (λ (b : Limit → Bool). some_breaks b ≡ false) (sym (asks ∙ ap broken at)) (none_breaks (broken (entry_of row)) tried.1)) refl (λ _. settled Done tried.1)
         (lent_view allowed s u d row' l _ (tried.2 ∙ ap writes (sym at)) ∙ sym writing) refl
-    by-trial (Err refusal) faults e some tried = subst (λ (t : Station P). Turn allowed s call (Refused refusal) t) (sym (lent_same allowed s u d row' l tried.1))
+    by_trial (Err refusal) faults e some tried = subst (λ (t : Station P). Turn allowed s call (Refused refusal) t) (sym (lent_same allowed s u d row' l tried.1))
         (refused_by (first_of faults) refusal e some tried.0)

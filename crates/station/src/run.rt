@@ -1,7 +1,7 @@
 // Stations are made, and run: calls as values, one more call after any past, and a whole list of calls.
 ghost use Rattle.std.specs.Prelude.{◌≡◌, ◌≤◌, [], length, IfOk, None};
 ghost use Rattle.station.specs.Sound.{Follows, Lawful, Made, Sound, upon};
-ghost use Rattle.station.specs.Turn.{done as doneBy, figured as figuredBy, opened_by, probed_by, scaled as scaledBy, Turn};
+ghost use Rattle.station.specs.Turn.{done as done_by, figured as figured_by, opened_by, probed_by, scaled as scaled_by, Turn};
 ghost use Rattle.station.specs.View.{entry_of};
 ghost use Rattle.station.specs.declared.call.Call.TheVariants.{Abandon, Amount, Close, Energy, Figure as Figures, Probe, Trapezium as Scales};
 
@@ -43,7 +43,7 @@ impl UnitRow {
 }
 
 fn done(res: Result<(), Refusal>) -> Answer
-    ensures { result ≡ doneBy res }
+    ensures { result ≡ done_by res }
 {
     match res {
         Ok(()) => Answer::Done,
@@ -61,7 +61,7 @@ fn opened(res: Result<Pass, Refusal>) -> Answer
 }
 
 fn figured(res: Result<Figure, Refusal>) -> Answer
-    ensures { result ≡ figuredBy res }
+    ensures { result ≡ figured_by res }
 {
     match res {
         Ok(figure) => Answer::Figure(figure),
@@ -79,7 +79,7 @@ fn probed(res: Result<Option<Figure>, Refusal>) -> Answer
 }
 
 fn scaled(res: Result<Option<Trapezium>, Refusal>) -> Answer
-    ensures { result ≡ scaledBy res }
+    ensures { result ≡ scaled_by res }
 {
     match res {
         Ok(trapezium) => Answer::Trapezium(trapezium),

@@ -1,6 +1,6 @@
 use Rattle.std.proofs.Common.{◌<◌, length, sym, refl, ◌∙◌, arith, length-set}
 use Rattle.limits.specs.Figure.{FigureAt, no_figure}
-use Rattle.limits.proofs.Breaks.{below-breaks, borne}
+use Rattle.limits.proofs.Breaks.{below_breaks, borne}
 use Rattle.limits.proofs.Places.{place_more}
 use Rattle.limits.proofs.Records.{not_allowed, not_borne}
 use Rattle.limits.proofs.figure.figures.Goals as goal
@@ -32,7 +32,7 @@ pub returns : goal.returns
 returns g c = record {
   value = (
     borne c.args.terms.now.terms c.args.row.now.row c.args.terms.now.ten (g.P.PlantLimit.allowed c.args.plant.now)
-        (below-breaks c.args.terms.now.terms c.args.row.now.row c.args.terms.now.ten (g.P.PlantLimit.allowed c.args.plant.now) 32 (omega arith) c.in_ok-best.ensures.1)
+        (below_breaks c.args.terms.now.terms c.args.row.now.row c.args.terms.now.ten (g.P.PlantLimit.allowed c.args.plant.now) 32 (omega arith) c.in_ok-best.ensures.1)
         (sym c.if-not-is_allowed.ensures),
     λ service l. c.loop-number.invariant.1 service (omega (arith, l)),
   );

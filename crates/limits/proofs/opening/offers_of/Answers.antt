@@ -6,7 +6,7 @@ use Rattle.fcas.specs.declared.kind.Kind.{Kind}
 use Rattle.fcas.specs.declared.reading.Measured.{Measured}
 use Rattle.limits.specs.Terms.{in_bounds, no_offer, offer_of}
 use Rattle.limits.specs.declared.terms.Offer.{Offer}
-use Rattle.limits.proofs.Offers.{all_in_bounds_lem, offers-are}
+use Rattle.limits.proofs.Offers.{all_in_bounds_lem, offers_are}
 use Rattle.limits.proofs.Places.{place_more}
 use Rattle.limits.proofs.opening.offers_of.Goals as goal
 
@@ -26,6 +26,6 @@ loop-number-preserved c =
 pub returns : goal.returns
 returns c =
     record {
-      value = offers-are c.args.kind c.args.reading.now.measured 0 c.args.bids.now c.loop-number.offers (c.loop-number.invariant.0 ∙ sym c.told-bids) (λ s l. (c.loop-number.invariant.1 s (omega (arith, l, c.told-bids))).0 ∙ ap (λ (n : ℕ). offer_of c.args.kind c.args.reading.now.measured n (option_map (λ checked. checked.bid) (get_or c.args.bids.now s None))) (sym (zero-add s)));
+      value = offers_are c.args.kind c.args.reading.now.measured 0 c.args.bids.now c.loop-number.offers (c.loop-number.invariant.0 ∙ sym c.told-bids) (λ s l. (c.loop-number.invariant.1 s (omega (arith, l, c.told-bids))).0 ∙ ap (λ (n : ℕ). offer_of c.args.kind c.args.reading.now.measured n (option_map (λ checked. checked.bid) (get_or c.args.bids.now s None))) (sym (zero-add s)));
       bound = all_in_bounds_lem c.loop-number.offers (λ s l. (c.loop-number.invariant.1 s (omega (arith, l, c.loop-number.invariant.0))).1);
     }

@@ -1,12 +1,12 @@
 use Rattle.std.proofs.Common.{◌≡◌, ◌*◌, ◌<◌, length, arith}
 use Rattle.limits.specs.declared.limit.Limit.TheVariants.{Availability}
-use Rattle.limits.proofs.Narrow.{at-service, at-rise, held_place, least_at}
+use Rattle.limits.proofs.Narrow.{at_service, at_rise, held_place, least_at}
 use Rattle.limits.proofs.terms.CheckedTerms.least.Goals as goal
 
 pub loop-limit-preserved : goal.loop-limit-preserved
 loop-limit-preserved c =
     let within : c.args.service.number < length c.args.row.now.row.amounts = omega (arith, c.args.row.now.ten, c.args.service.one_of_ten) in
-    at-service c.args.self.now.terms c.args.row.now.row c.args.service.number within c.loop-own.own c.loop-limit.limit-index (Availability 0) c.loop-limit.best c.in_ok-best.best
+    at_service c.args.self.now.terms c.args.row.now.row c.args.service.number within c.loop-own.own c.loop-limit.limit-index (Availability 0) c.loop-limit.best c.in_ok-best.best
     c.loop-own-test.true c.loop-limit-test.true c.loop-limit.invariant c.in_ok-best.ensures.0 c.in_ok-best.ensures.1
 
 pub returns : goal.returns
@@ -14,5 +14,5 @@ returns c =
     let within : c.args.service.number < length c.args.row.now.row.amounts = omega (arith, c.args.row.now.ten, c.args.service.one_of_ten) in
     let ends : 3 * c.loop-own.own ≡ 30 = omega arith in
     let services = held_place c.args.self.now.terms c.args.row.now.row c.args.service.number within (3 * c.loop-own.own) 30 c.loop-own.best ends c.loop-own.invariant in
-    let rise = at-rise c.args.self.now.terms c.args.row.now.row c.args.service.number within c.args.self.now.ten c.loop-own.best c.in_ok-best-2.best services c.in_ok-best-2.ensures.0 c.in_ok-best-2.ensures.1 in
+    let rise = at_rise c.args.self.now.terms c.args.row.now.row c.args.service.number within c.args.self.now.ten c.loop-own.best c.in_ok-best-2.best services c.in_ok-best-2.ensures.0 c.in_ok-best-2.ensures.1 in
     least_at c.args.self.now.terms c.args.row.now.row c.args.service.number within c.args.self.now.ten c.in_ok-best-2.best c.narrow-3.result rise c.narrow-3.ensures

@@ -8,9 +8,9 @@ use Rattle.limits.specs.declared.narrowing.Best.{Best}
 use Rattle.limits.specs.declared.row.CheckedRow.{CheckedRow}
 use Rattle.limits.specs.declared.row.Row.{Row}
 use Rattle.limits.specs.declared.terms.Terms.{Terms}
-use Rattle.limits.proofs.Breaks.{ten-sides}
-use Rattle.limits.proofs.Narrow.{at-service, at-rise, at-fall, held_place}
-use Rattle.limits.proofs.Orders.{after-services, after-ramp-up, below_more}
+use Rattle.limits.proofs.Breaks.{ten_sides}
+use Rattle.limits.proofs.Narrow.{at_service, at_rise, at_fall, held_place}
+use Rattle.limits.proofs.Orders.{after_services, after_ramp_up, below_more}
 use Rattle.limits.proofs.terms.CheckedTerms.least_of_all.Goals as goal
 
 inside : (row : CheckedRow) (s : ℕ) → s < 10 → s < length row.row.amounts
@@ -32,9 +32,9 @@ module _ (terms : Terms) (row : Row) (own : ℕ) (l : own < 10) where
       → Held (exceeded_with terms row s) (3 * (own + 1)) b₃
   held_three s within b b₁ b₂ b₃ h fa ea fu eu fl el =
       let h₀ = held_place terms row s within (3 * own) (3 * own + 0) b start h in
-      let h₁ = at-service terms row s within own 0 Plant b b₁ l (omega arith) h₀ fa ea in
-      let h₂ = at-service terms row s within own 1 Plant b₁ b₂ l (omega arith) h₁ fu eu in
-      let h₃ = at-service terms row s within own 2 Plant b₂ b₃ l (omega arith) h₂ fl el in
+      let h₁ = at_service terms row s within own 0 Plant b b₁ l (omega arith) h₀ fa ea in
+      let h₂ = at_service terms row s within own 1 Plant b₁ b₂ l (omega arith) h₁ fu eu in
+      let h₃ = at_service terms row s within own 2 Plant b₂ b₃ l (omega arith) h₂ fl el in
       held_place terms row s within (3 * own + (2 + 1)) (3 * (own + 1)) b₃ end h₃
 
   below_three : Below (λ limit. exceeded (sides_of terms row limit)) (3 * own) → exceeded (sides_of terms row (Availability own)) ≡ false → exceeded (sides_of terms row (Upper own)) ≡ false → exceeded (sides_of terms row (Lower own)) ≡ false → Below (λ limit. exceeded (sides_of terms row limit)) (3 * (own + 1))
@@ -59,11 +59,11 @@ loop-own-preserved c =
 pub returns : goal.returns
 returns c =
     let ends : 3 * c.loop-own.own ≡ 30 = omega arith in
-    let ten = ten-sides c.args.self.now.terms c.args.row.now.row c.args.self.now.ten in (
+    let ten = ten_sides c.args.self.now.terms c.args.row.now.row c.args.self.now.ten in (
       (λ s l.
           let in' = inside c.args.row.now s l in
           let services = held_place c.args.self.now.terms c.args.row.now.row s in' (3 * c.loop-own.own) 30 (get_or c.loop-own.best s no_best) ends (c.loop-own.invariant.0 s l) in
-          let rise = at-rise c.args.self.now.terms c.args.row.now.row s in' c.args.self.now.ten (get_or c.loop-own.best s no_best) (get_or c.narrow_rise.new.best s no_best) services c.if-not-narrow_rise.ensures.0 (c.if-not-narrow_rise.ensures.1 s l) in
-          at-fall c.args.self.now.terms c.args.row.now.row s in' c.args.self.now.ten (get_or c.narrow_rise.new.best s no_best) (get_or c.narrow_fall.new.best s no_best) rise c.if-not-narrow_fall.ensures.0 (c.if-not-narrow_fall.ensures.1 s l)),
-      after-ramp-up _ ten (after-services _ ten (subst (λ (n : ℕ). Below (λ limit. exceeded (sides_of c.args.self.now.terms c.args.row.now.row limit)) n) ends c.loop-own.invariant.1) c.if-not-narrow_rise.ensures.0) c.if-not-narrow_fall.ensures.0,
+          let rise = at_rise c.args.self.now.terms c.args.row.now.row s in' c.args.self.now.ten (get_or c.loop-own.best s no_best) (get_or c.narrow_rise.new.best s no_best) services c.if-not-narrow_rise.ensures.0 (c.if-not-narrow_rise.ensures.1 s l) in
+          at_fall c.args.self.now.terms c.args.row.now.row s in' c.args.self.now.ten (get_or c.narrow_rise.new.best s no_best) (get_or c.narrow_fall.new.best s no_best) rise c.if-not-narrow_fall.ensures.0 (c.if-not-narrow_fall.ensures.1 s l)),
+      after_ramp_up _ ten (after_services _ ten (subst (λ (n : ℕ). Below (λ limit. exceeded (sides_of c.args.self.now.terms c.args.row.now.row limit)) n) ends c.loop-own.invariant.1) c.if-not-narrow_rise.ensures.0) c.if-not-narrow_fall.ensures.0,
     )

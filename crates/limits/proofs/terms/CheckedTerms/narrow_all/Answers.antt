@@ -3,7 +3,7 @@ use Rattle.limits.specs.Limit.{exceeded, sides_of}
 use Rattle.limits.specs.Narrowing.{cap_by, cap_of, coefficient_of}
 use Rattle.limits.specs.Row.{amount}
 use Rattle.limits.specs.declared.limit.Sides.{Sides}
-use Rattle.limits.proofs.Joint.{one-narrowed, two-narrowed}
+use Rattle.limits.proofs.Joint.{one_narrowed, two_narrowed}
 use Rattle.limits.proofs.terms.CheckedTerms.narrow_all.Goals as goal
 
 known : (found : Option Sides) (sides : Sides) (cap : Option ℕ) (a held room c k : ℕ) → Some sides ≡ found → cap ≡ cap_of a room c → a ≡ held → room ≡ nat_abs (sides.greater -ℤ sides.lesser) → c ≡ k → cap ≡ cap_by found held k
@@ -15,7 +15,7 @@ pub returns-in-Some-joint : goal.returns-in-Some-joint
 returns-in-Some-joint c =
     let holds : exceeded (sides_of c.args.self.now.terms c.args.row.now.row c.args.limit) ≡ false = search rules in (
       holds,
-      two-narrowed c.args.self.now.terms c.args.limit (sides_of c.args.self.now.terms c.args.row.now.row c.args.limit) (amount c.args.row.now.row) c.args.best.now
+      two_narrowed c.args.self.now.terms c.args.limit (sides_of c.args.self.now.terms c.args.row.now.row c.args.limit) (amount c.args.row.now.row) c.args.best.now
           c.by-own.result c.in-Some-joint.other c.cap.result c.cap-in-Some-joint.result c.narrow_place.new.best c.narrow_place-in-Some-joint.new.best
           c.by-own.ensures (sym c.requires.joint ∙ c.in-Some-joint.is)
           (known (sides_of c.args.self.now.terms c.args.row.now.row c.args.limit) c.in-Some.sides _ _ _ _ _ _ (sym c.in-Some.is ∙ c.requires.sides) c.cap.ensures c.amount.ensures.value c.room-room.ensures.value (c.requires.own ∙ ap (λ (x : ℕ). coefficient_of c.args.self.now.terms c.args.limit x) (sym c.by-own.ensures)))
@@ -27,7 +27,7 @@ pub returns-in_default-joint : goal.returns-in_default-joint
 returns-in_default-joint c =
     let holds : exceeded (sides_of c.args.self.now.terms c.args.row.now.row c.args.limit) ≡ false = search rules in (
       holds,
-      one-narrowed c.args.self.now.terms c.args.limit (sides_of c.args.self.now.terms c.args.row.now.row c.args.limit) (amount c.args.row.now.row) c.args.best.now
+      one_narrowed c.args.self.now.terms c.args.limit (sides_of c.args.self.now.terms c.args.row.now.row c.args.limit) (amount c.args.row.now.row) c.args.best.now
           c.by-own.result c.cap.result c.narrow_place.new.best
           c.by-own.ensures (sym c.requires.joint ∙ c.in_default-joint.is)
           (known (sides_of c.args.self.now.terms c.args.row.now.row c.args.limit) c.in-Some.sides _ _ _ _ _ _ (sym c.in-Some.is ∙ c.requires.sides) c.cap.ensures c.amount.ensures.value c.room-room.ensures.value (c.requires.own ∙ ap (λ (x : ℕ). coefficient_of c.args.self.now.terms c.args.limit x) (sym c.by-own.ensures)))

@@ -3,7 +3,7 @@ use lib.Signed.{le_z}
 use Rattle.std.proofs.lemmas.Int.{to_z-of_z}
 use Rattle.limits.specs.Plant.{Greatest}
 use Rattle.plants.proofs.Answered.{greatest_same}
-use Rattle.plants.specs.Flows.{room-adds, room-else}
+use Rattle.plants.specs.Flows.{room_adds, room_else}
 use Rattle.plants.proofs.connection_cap.ConnectionCapPlantLimit.most.Goals as goal
 
 -- an answer for a room that went through 64 bits
@@ -16,7 +16,7 @@ returns-then-adds c =
     let within : c.args.service < length c.args.row.now.amounts = omega arith in
     record {
       value = known (λ a. a) _ c.args.service c.greatest.result c.room.result _ (record { sfits = c.room.type_inv }) c.room.ensures
-          (room-adds c.args.self.now c.args.row.now c.args.service within (sym c.if-adds.ensures)) c.greatest.ensures;
+          (room_adds c.args.self.now c.args.row.now c.args.service within (sym c.if-adds.ensures)) c.greatest.ensures;
       plant_kept = refl;
       row_kept = refl;
     }
@@ -27,7 +27,7 @@ returns-else-adds c =
     let within : c.args.service < length c.args.row.now.amounts = omega arith in
     record {
       value = known (λ _. 0) _ c.args.service c.greatest-else-adds.result c.room-else-adds.result _ (record { sfits = c.room-else-adds.type_inv }) c.room-else-adds.ensures
-          (room-else c.args.self.now c.args.row.now c.args.service within (sym c.if-adds.ensures)) c.greatest-else-adds.ensures;
+          (room_else c.args.self.now c.args.row.now c.args.service within (sym c.if-adds.ensures)) c.greatest-else-adds.ensures;
       plant_kept = refl;
       row_kept = refl;
     }

@@ -9,19 +9,19 @@ use Rattle.station.specs.View.{entry_of}
 use Rattle.station.specs.declared.row.UnitRow.{UnitRow}
 use Rattle.station.specs.declared.call.Answer.TheVariants.{Figure as Figured}
 use Rattle.station.specs.declared.call.Call.TheVariants.{Figure as FigureCall}
-use Rattle.station.proofs.ByPass.{figure-refused, figure-turn, unknown-figure}
+use Rattle.station.proofs.ByPass.{figure_refused, figure_turn, unknown_figure}
 use Rattle.station.proofs.station.Station.figure.Goals as goal
 
 pub returns-in_err-unit : goal.returns-in_err-unit
 returns-in_err-unit g c = record {
-  turn = unknown-figure g.P.PlantLimit.allowed c.args.self.now c.args.pass.now.numbers c.args.service c.from_residual-in_err-unit.result c.in_err-unit.field-0.0 c.in_ok-service.ensures.0 c.from_residual-in_err-unit.ensures.1 c.in_err-unit.ensures;
+  turn = unknown_figure g.P.PlantLimit.allowed c.args.self.now c.args.pass.now.numbers c.args.service c.from_residual-in_err-unit.result c.in_err-unit.field-0.0 c.in_ok-service.ensures.0 c.from_residual-in_err-unit.ensures.1 c.in_err-unit.ensures;
   station_kept = refl;
   pass_kept = refl;
 }
 
 pub returns-in_err-table : goal.returns-in_err-table
 returns-in_err-table g c = record {
-  turn = figure-refused g.P.PlantLimit.allowed c.args.self.now c.args.pass.now.numbers c.in_ok-unit.unit c.in_ok-unit.ensures.1.0 c.row_of.result.now c.in_ok-unit.ensures.1.1 c.in_ok-unit.ensures.0
+  turn = figure_refused g.P.PlantLimit.allowed c.args.self.now c.args.pass.now.numbers c.in_ok-unit.unit c.in_ok-unit.ensures.1.0 c.row_of.result.now c.in_ok-unit.ensures.1.1 c.in_ok-unit.ensures.0
       c.args.service c.from_residual-in_err-table.result c.in_err-table.field-0.0 c.in_ok-service.ensures.0 c.from_residual-in_err-table.ensures.1
       (subst (λ (row : UnitRow). BearsRow (g.P.PlantLimit.allowed c.args.self.now.plant) c.in_ok-unit.unit (entry_of row) → Refuses (held_faults (entry_of row)) c.in_err-table.field-0.0) c.row_of.ensures c.in_err-table.ensures);
   station_kept = refl;
@@ -35,7 +35,7 @@ returns g c =
     → (first_of (held_faults (entry_of row)) ≡ None) × ((service : ℕ) → service < 10 → FigureIn (g.P.PlantLimit.allowed c.args.self.now.plant) c.in_ok-unit.unit service (entry_of row) (get_or c.in_ok-table.table service no_figure))) c.row_of.ensures c.in_ok-table.ensures in
     record {
       turn = subst (λ (n : ℕ). Turn g.P.PlantLimit.allowed c.args.self.now (FigureCall c.args.pass.now.numbers n) (Figured (get_or c.in_ok-table.table c.in_ok-service.service.number no_figure)) c.args.self.now) c.in_ok-service.ensures.1
-          (figure-turn g.P.PlantLimit.allowed c.args.self.now c.args.pass.now.numbers c.in_ok-unit.unit c.in_ok-unit.ensures.1.0 c.row_of.result.now c.in_ok-unit.ensures.1.1 c.in_ok-unit.ensures.0
+          (figure_turn g.P.PlantLimit.allowed c.args.self.now c.args.pass.now.numbers c.in_ok-unit.unit c.in_ok-unit.ensures.1.0 c.row_of.result.now c.in_ok-unit.ensures.1.1 c.in_ok-unit.ensures.0
           c.in_ok-service.service.number (get_or c.in_ok-table.table c.in_ok-service.service.number no_figure) known (λ bears. ((all bears).0, (all bears).1 c.in_ok-service.service.number c.in_ok-service.service.one_of_ten)));
       station_kept = refl;
       pass_kept = refl;

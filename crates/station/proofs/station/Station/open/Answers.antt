@@ -1,14 +1,14 @@
 use Rattle.std.proofs.Common.{◌<◌, length, rules}
-use Rattle.station.proofs.Opening.{open-refused, open_turn, reading-refused}
+use Rattle.station.proofs.Opening.{open_refused, open_turn, reading_refused}
 use Rattle.station.proofs.station.Station.open.Goals as goal
 
 pub returns-in_err-reading : goal.returns-in_err-reading
-returns-in_err-reading g c = reading-refused g.P.PlantLimit.allowed c.args.self.now c.args.unit c.args.reading.now c.in_ok-check_unit.ensures.0 c.from_residual-in_err-reading.result _ c.from_residual-in_err-reading.ensures.1 c.in_err-reading.ensures.value
+returns-in_err-reading g c = reading_refused g.P.PlantLimit.allowed c.args.self.now c.args.unit c.args.reading.now c.in_ok-check_unit.ensures.0 c.from_residual-in_err-reading.result _ c.from_residual-in_err-reading.ensures.1 c.in_err-reading.ensures.value
 
 pub returns-in_err-open : goal.returns-in_err-open
 returns-in_err-open g c =
     let within : c.args.unit < length c.args.self.now.rows = search rules in
-    open-refused g.P.PlantLimit.allowed c.args.self.now c.args.unit c.args.reading.now c.in_ok-check_unit.ensures.0 c.index-self-unit.result c.open.new.self within
+    open_refused g.P.PlantLimit.allowed c.args.self.now c.args.unit c.args.reading.now c.in_ok-check_unit.ensures.0 c.index-self-unit.result c.open.new.self within
     c.in_ok-reading.reading.measured c.in_ok-reading.ensures.value.1 c.in_ok-reading.ensures.value.0
     c.from_residual-in_err-open.result c.in_err-open.field-0.0 c.from_residual-in_err-open.ensures.1 c.in_err-open.ensures.0 c.in_err-open.ensures.1
 
