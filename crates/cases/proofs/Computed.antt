@@ -1,5 +1,5 @@
 -- The worked cases, by computation.
-use Rattle.std.proofs.Common.{◌≡◌, ℕ, Bool, true, cond, not, Some, None, Ok, Option, Result, sym, refl, ap, ◌∙◌, subst, arith}
+use Rattle.std.proofs.Common.{◌≡◌, ℕ, Bool, true, cond, not, Some, None, Ok, Result, refl, ap, ◌∙◌, subst, arith}
 use lib.Ieee.{of_bits, mul, le, to_signed}
 use Rattle.std.specs.Float.{round_with}
 use Rattle.fcas.specs.Bid.{bid_faults}

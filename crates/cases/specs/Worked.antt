@@ -1,5 +1,5 @@
 -- Worked cases of the rules, computed from the definitions that the contracts use. Bids are in kilowatts; a float is written by its bits, its value in megawatts behind it.
-use Rattle.std.specs.Prelude.{◌≡◌, ℕ, List, [], ◌∷◌, pos, Some, None, Option, from_bits, Float}
+use Rattle.std.specs.Prelude.{◌≡◌, ℕ, List, [], ◌∷◌, pos, Some, None, from_bits}
 use Rattle.std.specs.Float.{binary64}
 use Rattle.fcas.specs.declared.bid.Bid.{Bid}
 use Rattle.fcas.specs.declared.kind.Kind.TheVariants.{Generator, SemiScheduled}

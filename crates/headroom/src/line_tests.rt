@@ -41,7 +41,7 @@ fn takes_lines_byte_by_byte(rt: HostRuntime) -> Result<(), Fail> {
     run(&mut Server::new(), &mut input, &mut answers, rt.alloc())?;
     assert!(rt;
         answers.as_slice()
-            == b"ok\nok\nerror a word is neither a number nor the name of a kind\nerror there are too few words\nok\n"
+            == b"ok\nok\nerror a word is neither a number nor the name of a kind\nerror there are too few words\nok\n".as_slice()
     );
     Ok(())
 }
@@ -67,7 +67,8 @@ fn takes_long_lines(rt: HostRuntime) -> Result<(), Fail> {
         rt.alloc(),
     )?;
     assert!(rt;
-        answers.as_slice() == b"ok\nerror the line is too long\ndeclined 22\ndeclined 22\n"
+        answers.as_slice()
+            == b"ok\nerror the line is too long\ndeclined 22\ndeclined 22\n".as_slice()
     );
     Ok(())
 }
