@@ -28,7 +28,8 @@ APART = {
 IN_FILE = {
     "crates/limits/specs/Bounds.antt": {"upperRun": "upper_run", "lowerRun": "lower_run"},
     "crates/limits/proofs/InBounds.antt": {"upperRun": "upper_run", "lowerRun": "lower_run"},
-    "crates/station/proofs/Held.antt": {"entry_in": "entry_in_lem", "is_open": "is_opened"},
+    "crates/station/proofs/Held.antt": {"entry_in": "entry_in_lem", "is_open": "row_is_open"},
+    "crates/fcas/proofs/Sizes.antt": {"at_least": "at_least_lem", "at_most": "at_most_lem"},
 }
 # The same where it stands behind a dot.
 FIELDS = {"upperRun": "upper_run", "lowerRun": "lower_run"}

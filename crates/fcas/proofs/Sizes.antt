@@ -41,11 +41,11 @@ or_split : (a b : Bool) → T (a || b) → T a ⊎ T b
 or_split true b t = inl tt
 or_split false b t = inr t
 
-at_most : (a b : ℕ) (c : Bool) → T (ltb a b || (eqb a b && c)) → a ≤ b
-at_most a b c t = elim (or_split (ltb a b) (eqb a b && c) t) [ inl u ↦ le_of_lt (ltb→lt a b u) | inr u ↦ le_of_eq (eqb→eq a b (and_l (eqb a b) c u)) ]
+at_most_lem : (a b : ℕ) (c : Bool) → T (ltb a b || (eqb a b && c)) → a ≤ b
+at_most_lem a b c t = elim (or_split (ltb a b) (eqb a b && c) t) [ inl u ↦ le_of_lt (ltb→lt a b u) | inr u ↦ le_of_eq (eqb→eq a b (and_l (eqb a b) c u)) ]
 
-at_least : (a b : ℕ) (c : Bool) → T (ltb b a || (eqb a b && c)) → b ≤ a
-at_least a b c t = elim (or_split (ltb b a) (eqb a b && c) t) [ inl u ↦ le_of_lt (ltb→lt b a u) | inr u ↦ le_of_eq (sym (eqb→eq a b (and_l (eqb a b) c u))) ]
+at_least_lem : (a b : ℕ) (c : Bool) → T (ltb b a || (eqb a b && c)) → b ≤ a
+at_least_lem a b c t = elim (or_split (ltb b a) (eqb a b && c) t) [ inl u ↦ le_of_lt (ltb→lt b a u) | inr u ↦ le_of_eq (sym (eqb→eq a b (and_l (eqb a b) c u))) ]
 
 -- x / de ≤ y / dd, and y / dd is n
 cancel : (x de y dd n : ℕ) → 0 < dd → y * 1 ≡ n * dd → x * dd ≤ y * de → x ≤ n * de
@@ -64,7 +64,7 @@ sized s n (fin t m e) nan v h = absurd h
 sized s n (fin t m e) (inf u) v h = absurd v
 sized s n (fin t m e) (fin true k d) v h = absurd (true≢false v.0)
 sized s n (fin t m e) (fin false k d) v h =
-    (refl, cancel (m * up e) (down e) (k * up d) (down d) n (down_pos d) v.1 (at_most (m * up e * down d) (k * up d * down e) true h))
+    (refl, cancel (m * up e) (down e) (k * up d) (down d) n (down_pos d) v.1 (at_most_lem (m * up e * down d) (k * up d * down e) true h))
 
 -- a fraction of n at most is rounded to n at most, for an n up to which the format has every whole number
 pub round_sized : (s : Bool) (n a b : ℕ) → n ≤ 2 ^ 53 → 0 < b → a ≤ n * b → Size s n (round binary64 s a b)
@@ -87,9 +87,9 @@ between n k (fin true a b) (fin false c d) nan v w g h = absurd h
 between n k (fin true a b) (fin false c d) (inf true) v w g h = absurd g
 between n k (fin true a b) (fin false c d) (inf false) v w g h = absurd h
 between n k (fin true a b) (fin false c d) (fin true m e) v w g h =
-    inl (refl, cancel (m * up e) (down e) (a * up b) (down b) n (down_pos b) v.1 (at_least (a * up b * down e) (m * up e * down b) true g))
+    inl (refl, cancel (m * up e) (down e) (a * up b) (down b) n (down_pos b) v.1 (at_least_lem (a * up b * down e) (m * up e * down b) true g))
 between n k (fin true a b) (fin false c d) (fin false m e) v w g h =
-    inr (refl, cancel (m * up e) (down e) (c * up d) (down d) k (down_pos d) w.1 (at_most (m * up e * down d) (c * up d * down e) true h))
+    inr (refl, cancel (m * up e) (down e) (c * up d) (down d) k (down_pos d) w.1 (at_most_lem (m * up e * down d) (c * up d * down e) true h))
 
 -- from 0 to k; what is called negative here is -0.0
 pub up_to : (k : ℕ) (hi x : Float) → HasValue hi false k 1 → T (le (fin false 0 (pos 0)) x) → T (le x hi) → Size true 0 x ⊎ Size false k x
@@ -103,4 +103,4 @@ up_to k (fin false c d) (inf false) w g h = absurd h
 up_to k (fin false c d) (fin true m e) w g h =
     inl (refl, le_of_eq (sym (mul-one (m * up e)) ∙ sym (eqb→eq (0 * down e) (m * up e * 1) (and_l (eqb (0 * down e) (m * up e * 1)) (false || eqb (0 * down e) 0) g))))
 up_to k (fin false c d) (fin false m e) w g h =
-    inr (refl, cancel (m * up e) (down e) (c * up d) (down d) k (down_pos d) w.1 (at_most (m * up e * down d) (c * up d * down e) true h))
+    inr (refl, cancel (m * up e) (down e) (c * up d) (down d) k (down_pos d) w.1 (at_most_lem (m * up e * down d) (c * up d * down e) true h))

@@ -128,8 +128,8 @@ module _ (allowed : Row → Bool) (row : UnitRow) (unit : ℕ) where
   held_row_lem = ap (λ (energy : ℕ). plant_row unit energy row) (held_energy row.state)
 
   module _ (none : first_of (held_faults (entry_of row)) ≡ None) where
-    is_opened : entry_of row ≡ Some (open_entry row)
-    is_opened = entry_open row (row_held row none).0
+    row_is_open : entry_of row ≡ Some (open_entry row)
+    row_is_open = entry_open row (row_held row none).0
 
     fixed : row.terms.terms ≡ fixed_terms
     fixed = terms_fixed row (row_held row none).0
@@ -144,7 +144,7 @@ module _ (allowed : Row → Bool) (row : UnitRow) (unit : ℕ) where
       faults_by : (live : Bool) → (offer_at row.terms.terms service).live ≡ live → first_of (amount_faults (entry_of row)) ≡ cond (not live) (Some 30) None
       faults_by live l =
           let l' : (offer_at fixed_terms service).live ≡ live = subst (λ (t : Terms). (offer_at t service).live ≡ live) fixed l in
-          subst (λ (x : Option Entry). first_of (amount_faults x) ≡ cond (not live) (Some 30) None) (sym is_opened) (rw ((row_held row none).1, l') refl)
+          subst (λ (x : Option Entry). first_of (amount_faults x) ≡ cond (not live) (Some 30) None) (sym row_is_open) (rw ((row_held row none).1, l') refl)
 
       pub amount_not_live : (offer_at row.terms.terms service).live ≡ false → AmountTried row (Err NotLive)
       amount_not_live l = (subst (λ (x : Option ℕ). Declines x (broken_with allowed unit service a (entry_of row)) (kind_in (entry_of row)) (plain 30)) (sym (faults_by false l)) refl, refl)
@@ -157,7 +157,7 @@ module _ (allowed : Row → Bool) (row : UnitRow) (unit : ℕ) where
         amount_refused refusal named =
             let named' = subst (λ (r : Row). Named (breaks allowed fixed_terms r) row.kind (told refusal)) asked_row (subst (λ (t : Terms). Named (breaks allowed t asked) row.kind (told refusal)) fixed named) in (
               subst (λ (x : Option ℕ). Declines x (broken_with allowed unit service a (entry_of row)) (kind_in (entry_of row)) (told refusal)) (sym (faults_by true live))
-                  (subst (λ (x : Option Entry). Named (broken_with allowed unit service a x) (kind_in x) (told refusal)) (sym is_opened) named'),
+                  (subst (λ (x : Option Entry). Named (broken_with allowed unit service a x) (kind_in x) (told refusal)) (sym row_is_open) named'),
               refl,
             )
 
@@ -165,17 +165,17 @@ module _ (allowed : Row → Bool) (row : UnitRow) (unit : ℕ) where
             → (first_of (amount_faults (entry_of row)) ≡ None) × Borne (broken_with allowed unit service a (entry_of row)) × (entry_in row.state row.kind (held_bids row.bids) row.reading.measured (set row.amounts service a) ≡ option_map (on_interval (with_amount_of service a)) (entry_of row))
         amount_taken borne = (
           faults_by true live,
-          subst (λ (x : Option Entry). Borne (broken_with allowed unit service a x)) (sym is_opened) (subst (λ (r : Row). Borne (breaks allowed fixed_terms r)) asked_row (subst (λ (t : Terms). Borne (breaks allowed t asked)) fixed borne)),
+          subst (λ (x : Option Entry). Borne (broken_with allowed unit service a x)) (sym row_is_open) (subst (λ (r : Row). Borne (breaks allowed fixed_terms r)) asked_row (subst (λ (t : Terms). Borne (breaks allowed t asked)) fixed borne)),
           amount_in row.state row.kind (held_bids row.bids) row.reading.measured row.amounts service a,
         )
 
     module _ (asked : Row) (is : asked ≡ plant_row unit (energy_of row.state) row) where
       pub is_borne : BearsRow allowed unit (entry_of row) → Borne (breaks allowed row.terms.terms asked)
       is_borne bears = subst (λ (t : Terms). Borne (breaks allowed t asked)) (sym fixed) (subst (λ (r : Row). Borne (breaks allowed fixed_terms r)) (sym (is ∙ held_row_lem))
-          (subst (BearsRow allowed unit) is_opened bears (row_held row none).1))
+          (subst (BearsRow allowed unit) row_is_open bears (row_held row none).1))
 
       pub figure_given : (service : ℕ) (given : Figure) → FigureAt allowed row.terms.terms asked service given → FigureIn allowed unit service (entry_of row) given
-      figure_given service given f = subst (λ (x : Option Entry). FigureIn allowed unit service x given) (sym is_opened)
+      figure_given service given f = subst (λ (x : Option Entry). FigureIn allowed unit service x given) (sym row_is_open)
           (subst (λ (r : Row). FigureAt allowed fixed_terms r service given) (is ∙ held_row_lem) (subst (λ (t : Terms). FigureAt allowed t asked service given) fixed f))
 
   pub probe_given : (service energy : ℕ) (asked : Row) (given : Option Figure) → asked ≡ plant_row unit energy row → Probed allowed row.terms.terms asked service given → is_open (entry_of row) ≡ true → ProbedIn allowed unit service energy (entry_of row) given
