@@ -159,7 +159,7 @@ impl<P: PlantLimit> Station<P> {
 
     // The figure of a service at the energy that is held, live or not.
     pub fn figure(&self, pass: &Pass, service: u32) -> Result<Figure, Refusal>
-        ensures turn { Turn P.PlantLimit.allowed self.now (Figures pass.now.numbers service) (figured result) self.now }
+        ensures turn { Turn P.PlantLimit.allowed self.entry.now (Figures pass.now.numbers service) (figured result) self.exit.now }
         ensures station_kept { self.exit.now ≡ self.entry.now }
         ensures pass_kept { pass.exit.now ≡ pass.entry.now }
     {
@@ -171,7 +171,7 @@ impl<P: PlantLimit> Station<P> {
 
     // The figure of a live service at another energy.
     pub fn probe(&self, pass: &Pass, service: u32, energy: u32) -> Result<Option<Figure>, Refusal>
-        ensures turn { Turn P.PlantLimit.allowed self.now (Probe pass.now.numbers service energy) (probed_by result) self.now }
+        ensures turn { Turn P.PlantLimit.allowed self.entry.now (Probe pass.now.numbers service energy) (probed_by result) self.exit.now }
         ensures station_kept { self.exit.now ≡ self.entry.now }
         ensures pass_kept { pass.exit.now ≡ pass.entry.now }
     {
@@ -183,7 +183,7 @@ impl<P: PlantLimit> Station<P> {
 
     // The five effective numbers of a service.
     pub fn trapezium(&self, pass: &Pass, service: u32) -> Result<Option<Trapezium>, Refusal>
-        ensures turn { Turn P.PlantLimit.allowed self.now (Scales pass.now.numbers service) (scaled result) self.now }
+        ensures turn { Turn P.PlantLimit.allowed self.entry.now (Scales pass.now.numbers service) (scaled result) self.exit.now }
         ensures station_kept { self.exit.now ≡ self.entry.now }
         ensures pass_kept { pass.exit.now ≡ pass.entry.now }
     {

@@ -127,7 +127,7 @@ impl<P: PlantLimit> Station<P> {
     }
 
     fn apply_figure(&self, numbers: PassNumbers, service: u32) -> Answer
-        ensures { Turn P.PlantLimit.allowed self.now (Figures numbers service) result self.now }
+        ensures { Turn P.PlantLimit.allowed self.entry.now (Figures numbers service) result self.exit.now }
     {
         let pass = Pass { numbers };
         let result = self.figure(&pass, service);
@@ -136,7 +136,7 @@ impl<P: PlantLimit> Station<P> {
     }
 
     fn apply_probe(&self, numbers: PassNumbers, service: u32, energy: u32) -> Answer
-        ensures { Turn P.PlantLimit.allowed self.now (Probe numbers service energy) result self.now }
+        ensures { Turn P.PlantLimit.allowed self.entry.now (Probe numbers service energy) result self.exit.now }
     {
         let pass = Pass { numbers };
         let result = self.probe(&pass, service, energy);
@@ -145,7 +145,7 @@ impl<P: PlantLimit> Station<P> {
     }
 
     fn apply_trapezium(&self, numbers: PassNumbers, service: u32) -> Answer
-        ensures { Turn P.PlantLimit.allowed self.now (Scales numbers service) result self.now }
+        ensures { Turn P.PlantLimit.allowed self.entry.now (Scales numbers service) result self.exit.now }
     {
         let pass = Pass { numbers };
         let result = self.trapezium(&pass, service);
