@@ -3,9 +3,9 @@
 
 usage: python3 tools/respell.py [--dry]     at the top of the repository, once, after the kit's own porting script
 
-It takes the names that are defined at the head of a line, or as a field of a record, in the .antt files of specs/ and
-proofs/, or within a block; the answers to goals keep theirs, since the toolchain makes those. It writes them anew in .antt and .rt files, in
-must-fail edits and in the documents. Functions of src/, strings, inputs and outputs keep their names.
+It takes the names that are defined in the .antt files of specs/ and proofs/, at the head of a line, within a block or as a
+field of a record; the answers to goals keep theirs, since the toolchain makes those. It writes them anew in .antt and .rt
+files, in must-fail edits and in the documents. Functions of src/, strings, inputs and outputs keep their names.
 """
 import os
 import re
@@ -124,7 +124,7 @@ def main(dry):
         if local:
             both = re.compile("(?<![\\w'\\-«])" + either(set(names) | set(local)))
 
-        def word(m, pattern_names=names):
+        def word(m):
             n = m[1]
             if n in local:
                 return local[n]
