@@ -2,6 +2,7 @@
 ghost use Rattle.std.specs.Prelude.{◌≡◌, ◌≤◌};
 ghost use Rattle.fcas.specs.Checks.{first_of};
 ghost use Rattle.fcas.specs.Live.{energy_available, ground_number, ground_of, grounds_against, is_off, not_below_zero};
+ghost use Rattle.fcas.specs.Service.{service_number};
 ghost use Rattle.std.specs.Option.{option_copied, option_map};
 
 use crate::bid::{CheckedBid, some_above};
@@ -66,7 +67,7 @@ impl Ground {
         bid: &CheckedBid,
         reading: &CheckedReading,
     ) -> Option<Ground>
-        ensures { option_map ground_number result ≡ first_of (grounds_against kind service.number bid.now.bid reading.now.measured) }
+        ensures { option_map ground_number result ≡ first_of (grounds_against kind (service_number service) bid.now.bid reading.now.measured) }
     {
         let envelope = Envelope::new(kind, service, bid, reading);
         if envelope.max_availability == 0 {
@@ -95,7 +96,7 @@ impl Ground {
         bid: Option<&CheckedBid>,
         reading: &CheckedReading,
     ) -> Option<Ground>
-        ensures value { option_map ground_number result ≡ ground_of kind service.number (option_map (λ held. held.bid) (option_copied bid.entry)) reading.now.measured }
+        ensures value { option_map ground_number result ≡ ground_of kind (service_number service) (option_map (λ held. held.bid) (option_copied bid.entry)) reading.now.measured }
         ensures bid_kept { option_copied bid.exit ≡ option_copied bid.entry }
         ensures reading_kept { reading.exit.now ≡ reading.entry.now }
     {

@@ -1,6 +1,7 @@
 // The effective trapezium of a service: the bid's, scaled by the unit's reading.
 ghost use Rattle.std.specs.Prelude.{◌≡◌, ◌*◌, ◌<◌, ◌≤◌, pos, ◌+ℤ◌, ◌-ℤ◌, ◌*ℤ◌, ◌≤ℤ◌};
 ghost use Rattle.fcas.specs.Trapezium.{at_least, at_most, effective_enablement_max, effective_enablement_min, forecast_of, effective_high_breakpoint, effective_low_breakpoint, lower_limit, lower_run_of, effective_max_availability, ramp_of, rounded_down, rounded_up, trapezium_of, unless_zero, upper_limit, upper_run_of};
+ghost use Rattle.fcas.specs.Service.{service_number};
 ghost use Rattle.std.specs.Option.{option_map, unwrap_or};
 
 use crate::bid::CheckedBid;
@@ -59,8 +60,8 @@ pub(crate) fn at_most(limit: Option<u32>, number: u32) -> u32
 
 // The AGC limits narrow the enablement limits of a regulating service.
 fn scaled_by_agc(envelope: Envelope, service: Service, reading: &CheckedReading) -> Envelope
-    ensures min { result.enablement_min ≡ at_least (lower_limit service.number reading.now.measured) envelope.enablement_min }
-    ensures max { result.enablement_max ≡ at_most (upper_limit service.number reading.now.measured) envelope.enablement_max }
+    ensures min { result.enablement_min ≡ at_least (lower_limit (service_number service) reading.now.measured) envelope.enablement_min }
+    ensures max { result.enablement_max ≡ at_most (upper_limit (service_number service) reading.now.measured) envelope.enablement_max }
     ensures availability { result.max_availability ≡ envelope.max_availability }
 {
     if !service.is_regulating() {
@@ -81,12 +82,12 @@ fn scaled_by_agc(envelope: Envelope, service: Service, reading: &CheckedReading)
 
 // The ramp, in kilowatts a minute, that bears on a service of the kind.
 fn ramp_of(kind: Kind, service: Service, reading: &CheckedReading) -> Option<u32>
-    ensures value { result ≡ ramp_of kind service.number reading.now.measured }
+    ensures value { result ≡ ramp_of kind (service_number service) reading.now.measured }
     ensures bound { unwrap_or result 0 ≤ 800000 }
 {
-    if service.number == kind.upward().number {
+    if service == kind.upward() {
         unless_zero(reading.measured.ramp_up)
-    } else if service.number == kind.downward().number {
+    } else if service == kind.downward() {
         unless_zero(reading.measured.ramp_down)
     } else {
         None
@@ -137,9 +138,9 @@ fn scaled_by_forecast(envelope: Envelope, forecast: Option<u32>) -> Envelope
 impl Envelope {
     // The effective limits and availability of a service.
     pub fn new(kind: Kind, service: Service, bid: &CheckedBid, reading: &CheckedReading) -> Envelope
-        ensures min { result.enablement_min ≡ effective_enablement_min service.number bid.now.bid reading.now.measured }
-        ensures max { result.enablement_max ≡ effective_enablement_max kind service.number bid.now.bid reading.now.measured }
-        ensures availability { result.max_availability ≡ effective_max_availability kind service.number bid.now.bid reading.now.measured }
+        ensures min { result.enablement_min ≡ effective_enablement_min (service_number service) bid.now.bid reading.now.measured }
+        ensures max { result.enablement_max ≡ effective_enablement_max kind (service_number service) bid.now.bid reading.now.measured }
+        ensures availability { result.max_availability ≡ effective_max_availability kind (service_number service) bid.now.bid reading.now.measured }
         ensures bid_kept { bid.exit.now ≡ bid.entry.now }
         ensures reading_kept { reading.exit.now ≡ reading.entry.now }
     {
@@ -223,7 +224,7 @@ impl Trapezium {
         bid: &CheckedBid,
         reading: &CheckedReading,
     ) -> Trapezium
-        ensures value { result ≡ trapezium_of kind service.number bid.now.bid reading.now.measured }
+        ensures value { result ≡ trapezium_of kind (service_number service) bid.now.bid reading.now.measured }
         ensures bid_kept { bid.exit.now ≡ bid.entry.now }
         ensures reading_kept { reading.exit.now ≡ reading.entry.now }
     {
