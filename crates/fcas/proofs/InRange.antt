@@ -1,11 +1,12 @@
 -- What the one test of a reading says of each of its fields.
-use Rattle.std.proofs.Common.{◌≡◌, ◌≤◌, Bool, true, ◌&&◌, leb, Some, None, Option, refl}
+use Rattle.std.proofs.Common.{◌≡◌, ◌≤◌, Bool, true, ◌&&◌, leb, Some, None, Option, refl, arith}
 use lib.Ieee.{Float}
 use Rattle.std.proofs.lemmas.Bool.{and_parts, leb-true}
+use Rattle.std.specs.Option.{unwrap_or}
 use Rattle.fcas.specs.declared.reading.Reading.{Reading}
-use Rattle.fcas.specs.Kilowatts.{zero_mw, most_ramp_mw, most_mw, least_mw, within, within_if}
+use Rattle.fcas.specs.Kilowatts.{zero_mw, most_ramp_mw, most_mw, least_mw, within, within_if, kilowatts_if}
 use Rattle.fcas.specs.Reading.{in_range}
-use Rattle.fcas.proofs.Ranges.{ramp_is_power}
+use Rattle.fcas.proofs.Ranges.{ramp_is_power, unsigned_power, unsigned_ramp}
 
 pub record Parts (r : Reading) : Type 0 where
   pub initial : within least_mw most_mw r.initial ≡ true
@@ -41,6 +42,16 @@ parts r t =
       uigf = p.5;
       energy = leb-true r.energy_max 4000000 p.6;
     }
+
+-- what is in its range as a float is in its range as kilowatts
+
+pub power_if : (x : Option Float) → within_if zero_mw most_mw x ≡ true → unwrap_or (kilowatts_if x) 0 ≤ 4000000
+power_if None e = omega arith
+power_if (Some x) e = let p = unsigned_power x e in rw p.2 p.1
+
+pub ramp_if : (x : Option Float) → within_if zero_mw most_ramp_mw x ≡ true → unwrap_or (kilowatts_if x) 0 ≤ 800000
+ramp_if None e = omega arith
+ramp_if (Some x) e = let p = unsigned_ramp x e in rw p.2 p.1
 
 pub ramp_in_range : (x : Option Float) → within_if zero_mw most_ramp_mw x ≡ true → within_if zero_mw most_mw x ≡ true
 ramp_in_range None e = refl

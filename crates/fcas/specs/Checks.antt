@@ -17,8 +17,8 @@ refusal_number ForecastMissing = 24
 abbrev pub Finding : Type 0
 Finding = ℕ × Bool
 
--- The number of the first finding of a list that is true; nothing where none is.
-abbrev pub first_of : List Finding → Option ℕ
+-- What the first statement of a list that is true is about; nothing where none is.
+abbrev pub first_of : {X : Type 0} → List (X × Bool) → Option X
 first_of [] = None
 first_of (finding ∷ more) = cond finding.1 (Some finding.0) (first_of more)
 

@@ -2,6 +2,7 @@ pub mod Checks
 pub mod Kind
 pub mod Service
 pub mod Bid
+pub mod Power
 pub mod Kilowatts
 pub mod Reading
 pub mod Trapezium

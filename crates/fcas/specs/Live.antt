@@ -1,7 +1,7 @@
 -- Which services of a unit are live, and the ground that keeps another out.
 use Rattle.std.specs.Prelude.{ℕ, Bool, true, false, not, ◌&&◌, ◌||◌, List, [], ◌∷◌, ℤ, pos, negsuc, Some, None, Option, ◌==◌, nat_lt}
 use Rattle.fcas.specs.Bid.{some_above}
-use Rattle.fcas.specs.Checks.{Finding, first_of}
+use Rattle.fcas.specs.Checks.{first_of}
 use Rattle.fcas.specs.Service.{regulating}
 use Rattle.fcas.specs.Trapezium.{at_most, forecast_of, effective_enablement_min, effective_enablement_max, effective_max_availability}
 use Rattle.fcas.specs.declared.bid.Bid.{Bid}
@@ -37,16 +37,16 @@ is_off On = false
 is_off Off = true
 
 -- The grounds against a service that is bid, and whether each holds.
-abbrev pub grounds_against : Kind → ℕ → Bid → Measured → List Finding
+abbrev pub grounds_against : Kind → ℕ → Bid → Measured → List (Ground × Bool)
 grounds_against kind service bid m =
-    (12, (effective_max_availability kind service bid m == 0))
-    ∷ (13, not (some_above 0 bid.bands))
-    ∷ (14, nat_lt (energy_available kind m) (effective_enablement_min service bid m))
-    ∷ (15, nat_lt (not_below_zero m.initial) (effective_enablement_min service bid m) || nat_lt (effective_enablement_max kind service bid m) (not_below_zero m.initial))
-    ∷ (16, regulating service && is_off m.agc_status)
+    (NoAvailability, (effective_max_availability kind service bid m == 0))
+    ∷ (NoBand, not (some_above 0 bid.bands))
+    ∷ (EnergyMaxTooLow, nat_lt (energy_available kind m) (effective_enablement_min service bid m))
+    ∷ (OutsideEnablement, nat_lt (not_below_zero m.initial) (effective_enablement_min service bid m) || nat_lt (effective_enablement_max kind service bid m) (not_below_zero m.initial))
+    ∷ (AgcIsOff, regulating service && is_off m.agc_status)
     ∷ []
 
 -- The lowest ground against a service. Where there is none, the service is live.
-abbrev pub ground_of : Kind → ℕ → Option Bid → Measured → Option ℕ
-ground_of kind service None m = Some 11
+abbrev pub ground_of : Kind → ℕ → Option Bid → Measured → Option Ground
+ground_of kind service None m = Some NoBid
 ground_of kind service (Some bid) m = first_of (grounds_against kind service bid m)

@@ -1,5 +1,5 @@
 -- When a reading is taken, and what it says in whole kilowatts.
-use Rattle.std.specs.Prelude.{ℕ, Bool, cond, not, ◌&&◌, List, [], ◌∷◌, is_some, ◌==◌, nat_le}
+use Rattle.std.specs.Prelude.{ℕ, Bool, cond, not, ◌&&◌, List, [], ◌∷◌, is_some, ◌==◌, nat_le, nat_lt}
 use Rattle.fcas.specs.Checks.{Finding}
 use Rattle.fcas.specs.Kilowatts.{zero_mw, most_ramp_mw, most_mw, least_mw, within, within_if, kilowatts_of, kilowatts_if}
 use Rattle.fcas.specs.declared.kind.Kind.{Kind}
@@ -23,6 +23,10 @@ in_range r =
 
 abbrev pub reading_faults : Reading → List Finding
 reading_faults r = (6, not (in_range r)) ∷ []
+
+-- A status above 2 is none.
+abbrev pub agc_status_faults : ℕ → List Finding
+agc_status_faults number = (6, nat_lt 2 number) ∷ []
 
 -- 0 is not told, 1 is on and 2 is off.
 abbrev pub agc_status_of : ℕ → AgcStatus

@@ -2,14 +2,16 @@
 ghost use Rattle.std.specs.Prelude.{◌≡◌, ◌≤◌, false, nat_lt};
 ghost use Rattle.fcas.specs.Bid.{bid_faults, falls as numbers_fall, numbers_of, some_above};
 ghost use Rattle.fcas.specs.Checks.{Checked};
+ghost use Rattle.fcas.specs.Trapezium.{lower_run_of, upper_run_of};
 
+use crate::power::{Power, UpTo};
 use crate::refusal::Refusal;
 
 // The greatest power that a bid may name, in kilowatts.
 const MOST: u32 = 4_000_000;
 
 // A bid as it is handed over, in kilowatts.
-#[derive(Clone, Copy)]
+#[derive(Clone, Copy, Debug, PartialEq, Eq)]
 pub struct Bid {
     pub enablement_min: u32,
     pub low_breakpoint: u32,
@@ -31,6 +33,14 @@ pub struct CheckedBid {
     ghost bands_in_range: { some_above 4000000 bid.bands ≡ false },
 }
 
+// What the slopes of a bid's trapezium are made of: each rises by the maximum availability over its run.
+#[derive(Clone, Copy, Debug, PartialEq, Eq)]
+pub struct Slopes {
+    pub max_availability: Power,
+    pub upper_run: Power,
+    pub lower_run: Power,
+}
+
 fn is_above(limit: u32, number: u32) -> bool
     ensures { result ≡ nat_lt limit number }
 {
@@ -39,8 +49,7 @@ fn is_above(limit: u32, number: u32) -> bool
 
 // Whether some number is above the limit.
 pub fn some_above(limit: u32, numbers: &[u32]) -> bool
-    ensures value { result ≡ some_above limit numbers.now }
-    ensures kept { numbers.exit.now ≡ numbers.entry.now }
+    ensures { result ≡ some_above limit numbers.now }
 {
     for number in numbers {
         if is_above(limit, *number) {
@@ -86,5 +95,23 @@ impl CheckedBid {
             return Err(Refusal::BidFalls);
         }
         Ok(CheckedBid { bid })
+    }
+
+    pub fn slopes(&self) -> Slopes
+        ensures max_availability { result.max_availability ≡ self.now.bid.max_availability }
+        ensures upper_run { result.upper_run ≡ upper_run_of self.now.bid }
+        ensures lower_run { result.lower_run ≡ lower_run_of self.now.bid }
+    {
+        Slopes {
+            max_availability: UpTo {
+                number: self.bid.max_availability,
+            },
+            upper_run: UpTo {
+                number: self.bid.enablement_max - self.bid.high_breakpoint,
+            },
+            lower_run: UpTo {
+                number: self.bid.low_breakpoint - self.bid.enablement_min,
+            },
+        }
     }
 }

@@ -1,8 +1,9 @@
 // Megawatts as 64-bit floats to whole kilowatts, with nothing clamped.
 ghost use Rattle.std.specs.Prelude.{◌≡◌, ◌≤◌, true, pos, negsuc, ◌≤ℤ◌, unsigned_abs};
-ghost use Rattle.fcas.specs.Kilowatts.{kilowatts_if, kilowatts_of, least_mw, most_mw, most_ramp_mw, nearest_whole, thousandfold as product, within as lies_within, within_if, zero_mw};
+ghost use Rattle.fcas.specs.Kilowatts.{kilowatts_if, kilowatts_of, least_mw, most_mw, nearest_whole, thousandfold as product, within as lies_within, within_if, zero_mw};
 ghost use Rattle.std.specs.Option.{unwrap_or};
 
+use crate::power::UpTo;
 use std::num::truncating_f64_to_i64;
 
 pub(crate) const LEAST_MW: f64 = -4000.0;
@@ -20,10 +21,7 @@ pub(crate) fn within(low: f64, high: f64, x: f64) -> bool
 pub(crate) fn absent_or_within(low: f64, high: f64, x: Option<f64>) -> bool
     ensures { result ≡ within_if low high x }
 {
-    match x {
-        Some(x) => within(low, high, x),
-        None => true,
-    }
+    x.is_none_or(|x| within(low, high, x))
 }
 
 // Kilowatts, before they are rounded to a whole number.
@@ -53,22 +51,21 @@ pub(crate) fn kilowatts(megawatts: f64) -> i32
 // The same of a power that is not negative.
 pub(crate) fn unsigned_kilowatts(megawatts: f64) -> u32
     requires { lies_within zero_mw most_mw megawatts ≡ true }
-    ensures value { result ≡ unsigned_abs (kilowatts_of megawatts) }
-    ensures most { result ≤ 4000000 }
-    ensures ramp { lies_within zero_mw most_ramp_mw megawatts ≡ true → result ≤ 800000 }
+    ensures { result ≡ unsigned_abs (kilowatts_of megawatts) }
 {
     kilowatts(megawatts) as u32
 }
 
-// The same of a power that may be absent.
-pub(crate) fn kilowatts_if_present(megawatts: Option<f64>) -> Option<u32>
-    requires { within_if zero_mw most_mw megawatts ≡ true }
-    ensures value { result ≡ kilowatts_if megawatts }
-    ensures most { unwrap_or result 0 ≤ 4000000 }
-    ensures ramp { within_if zero_mw most_ramp_mw megawatts ≡ true → unwrap_or result 0 ≤ 800000 }
+// The same of a number that may be absent.
+pub(crate) fn kilowatts_if_present<const MOST: u32>(megawatts: Option<f64>) -> Option<UpTo<MOST>>
+    requires in_range { within_if zero_mw most_mw megawatts ≡ true }
+    requires most { unwrap_or (kilowatts_if megawatts) 0 ≤ MOST }
+    ensures { result ≡ kilowatts_if megawatts }
 {
     match megawatts {
-        Some(x) => Some(unsigned_kilowatts(x)),
+        Some(x) => Some(UpTo {
+            number: unsigned_kilowatts(x),
+        }),
         None => None,
     }
 }

@@ -1,18 +1,19 @@
 // Whether a service of a unit is live, and if not, why.
 ghost use Rattle.std.specs.Prelude.{◌≡◌, ◌≤◌};
 ghost use Rattle.fcas.specs.Checks.{first_of};
-ghost use Rattle.fcas.specs.Live.{energy_available, ground_number, ground_of, grounds_against, is_off, not_below_zero};
+ghost use Rattle.fcas.specs.Live.{ground_number, ground_of, grounds_against, is_off, not_below_zero};
 ghost use Rattle.fcas.specs.Service.{service_number};
 ghost use Rattle.std.specs.Option.{option_copied, option_map};
 
 use crate::bid::{CheckedBid, some_above};
-use crate::kind::Kind;
-use crate::reading::{AgcStatus, CheckedReading};
+use crate::opening::Opening;
+use crate::reading::AgcStatus;
 use crate::service::Service;
-use crate::trapezium::{Envelope, at_most, forecast_of};
+use crate::trapezium::Envelope;
+use std::fmt;
 
 // What keeps a service out.
-#[derive(Clone, Copy)]
+#[derive(Clone, Copy, Debug, PartialEq, Eq)]
 pub enum Ground {
     NoBid,
     NoAvailability,
@@ -22,28 +23,18 @@ pub enum Ground {
     AgcIsOff,
 }
 
-// The energy that the unit can reach in the interval.
-fn energy_available(kind: Kind, reading: &CheckedReading) -> u32
-    ensures { result ≡ energy_available kind reading.now.measured }
-{
-    at_most(forecast_of(kind, reading), reading.measured.energy_max)
-}
-
 // The greater of a power and 0.
 fn not_below_zero(power: i32) -> u32
     ensures { result ≡ not_below_zero power }
 {
-    if power < 0 { 0 } else { power as u32 }
+    u32::try_from(power).unwrap_or(0)
 }
 
 // A status that is not told counts as on.
 fn is_off(status: AgcStatus) -> bool
     ensures { result ≡ is_off status }
 {
-    match status {
-        AgcStatus::Off => true,
-        _ => false,
-    }
+    status == AgcStatus::Off
 }
 
 impl Ground {
@@ -61,48 +52,50 @@ impl Ground {
     }
 
     // The lowest ground against a service that is bid.
-    fn against_bid(
-        kind: Kind,
-        service: Service,
-        bid: &CheckedBid,
-        reading: &CheckedReading,
-    ) -> Option<Ground>
-        ensures { option_map ground_number result ≡ first_of (grounds_against kind (service_number service) bid.now.bid reading.now.measured) }
+    fn against_bid(opening: &Opening, service: Service, bid: &CheckedBid) -> Option<Ground>
+        ensures { result ≡ first_of (grounds_against opening.now.kind (service_number service) bid.now.bid opening.now.reading.measured) }
     {
-        let envelope = Envelope::new(kind, service, bid, reading);
-        if envelope.max_availability == 0 {
+        let envelope = Envelope::new(opening, service, bid);
+        if envelope.max_availability.get() == 0 {
             return Some(Ground::NoAvailability);
         }
         if !some_above(0, &bid.bid.bands) {
             return Some(Ground::NoBand);
         }
-        if energy_available(kind, reading) < envelope.enablement_min {
+        if opening.energy_available() < envelope.enablement_min {
             return Some(Ground::EnergyMaxTooLow);
         }
-        let initial = not_below_zero(reading.measured.initial);
-        if initial < envelope.enablement_min || envelope.enablement_max < initial {
+        let initial = not_below_zero(opening.reading.measured.initial);
+        if initial < envelope.enablement_min.get() || envelope.enablement_max.get() < initial {
             return Some(Ground::OutsideEnablement);
         }
-        if service.is_regulating() && is_off(reading.measured.agc_status) {
+        if service.is_regulating() && is_off(opening.reading.measured.agc_status) {
             return Some(Ground::AgcIsOff);
         }
         None
     }
 
     // The lowest ground against a service, or nothing where it is live.
-    pub fn against(
-        kind: Kind,
-        service: Service,
-        bid: Option<&CheckedBid>,
-        reading: &CheckedReading,
-    ) -> Option<Ground>
-        ensures value { option_map ground_number result ≡ ground_of kind (service_number service) (option_map (λ held. held.bid) (option_copied bid.entry)) reading.now.measured }
-        ensures bid_kept { option_copied bid.exit ≡ option_copied bid.entry }
-        ensures reading_kept { reading.exit.now ≡ reading.entry.now }
+    pub fn against(opening: &Opening, service: Service, bid: Option<&CheckedBid>) -> Option<Ground>
+        ensures { result ≡ ground_of opening.now.kind (service_number service) (option_map (λ held. held.bid) (option_copied bid.entry)) opening.now.reading.measured }
     {
         match bid {
-            Some(bid) => Ground::against_bid(kind, service, bid, reading),
+            Some(bid) => Ground::against_bid(opening, service, bid),
             None => Some(Ground::NoBid),
         }
+    }
+}
+
+// Why, in words.
+impl fmt::Display for Ground {
+    fn fmt<W: fmt::Write>(&self, f: &mut fmt::Formatter<W>) -> fmt::Result {
+        f.pad(match self {
+            Ground::NoBid => "no bid",
+            Ground::NoAvailability => "effective max availability is 0",
+            Ground::NoBand => "no band is above 0",
+            Ground::EnergyMaxTooLow => "available energy is below enablement min",
+            Ground::OutsideEnablement => "initial is outside the enablement limits",
+            Ground::AgcIsOff => "AGC is off",
+        })
     }
 }

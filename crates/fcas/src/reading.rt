@@ -1,13 +1,13 @@
 // What a unit's control system says of it as an interval opens.
 ghost use Rattle.std.specs.Prelude.{◌≡◌, ◌≤◌, true, pos, negsuc, ◌≤ℤ◌};
 ghost use Rattle.fcas.specs.Checks.{Checked};
-ghost use Rattle.fcas.specs.Reading.{agc_status_of, forecast_faults, in_range, measured_of, reading_faults};
+ghost use Rattle.fcas.specs.Reading.{agc_status_faults, agc_status_of, in_range, measured_of, reading_faults};
 ghost use Rattle.std.specs.Option.{unwrap_or};
 
 use crate::kilowatts::{
     LEAST_MW, MOST_MW, MOST_RAMP_MW, absent_or_within, kilowatts, kilowatts_if_present, within,
 };
-use crate::kind::Kind;
+use crate::power::{Power, Ramp};
 use crate::refusal::Refusal;
 
 // A reading as it is handed over. The floats are megawatts, the ramps megawatts a minute; the energy maximum is in kilowatts. UIGF is the forecast of a semi-scheduled unit.
@@ -23,7 +23,7 @@ pub struct Reading {
     pub agc_status: u32,
 }
 
-#[derive(Clone, Copy)]
+#[derive(Clone, Copy, Debug, PartialEq, Eq)]
 pub enum AgcStatus {
     NotTold,
     On,
@@ -31,15 +31,15 @@ pub enum AgcStatus {
 }
 
 // A reading in whole kilowatts.
-#[derive(Clone, Copy)]
+#[derive(Clone, Copy, Debug, PartialEq, Eq)]
 pub struct Measured {
     pub initial: i32,
-    pub agc_lower: Option<u32>,
-    pub agc_upper: Option<u32>,
-    pub ramp_up: Option<u32>,
-    pub ramp_down: Option<u32>,
-    pub uigf: Option<u32>,
-    pub energy_max: u32,
+    pub agc_lower: Option<Power>,
+    pub agc_upper: Option<Power>,
+    pub ramp_up: Option<Ramp>,
+    pub ramp_down: Option<Ramp>,
+    pub uigf: Option<Power>,
+    pub energy_max: Power,
     pub agc_status: AgcStatus,
 }
 
@@ -49,22 +49,19 @@ pub struct CheckedReading {
     pub measured: Measured,
     ghost initial_low: { negsuc 3999999 ≤ℤ measured.initial },
     ghost initial_high: { measured.initial ≤ℤ pos 4000000 },
-    ghost agc_lower_in_range: { unwrap_or measured.agc_lower 0 ≤ 4000000 },
-    ghost agc_upper_in_range: { unwrap_or measured.agc_upper 0 ≤ 4000000 },
-    ghost ramp_up_in_range: { unwrap_or measured.ramp_up 0 ≤ 800000 },
-    ghost ramp_down_in_range: { unwrap_or measured.ramp_down 0 ≤ 800000 },
-    ghost uigf_in_range: { unwrap_or measured.uigf 0 ≤ 4000000 },
-    ghost energy_max_in_range: { measured.energy_max ≤ 4000000 },
 }
 
-impl AgcStatus {
-    fn from_number(number: u32) -> AgcStatus
-        ensures { result ≡ agc_status_of number }
-    {
+impl TryFrom<u32> for AgcStatus {
+    type Error = Refusal;
+
+    ghost try_from_gives = { λ number found. Checked (agc_status_faults number) (λ status. status ≡ agc_status_of number) found };
+
+    fn try_from(number: u32) -> Result<AgcStatus, Refusal> {
         match number {
-            0 => AgcStatus::NotTold,
-            1 => AgcStatus::On,
-            _ => AgcStatus::Off,
+            0 => Ok(AgcStatus::NotTold),
+            1 => Ok(AgcStatus::On),
+            2 => Ok(AgcStatus::Off),
+            _ => Err(Refusal::ReadingOutOfRange),
         }
     }
 }
@@ -87,8 +84,7 @@ impl Reading {
 
 impl CheckedReading {
     pub fn new(reading: &Reading) -> Result<CheckedReading, Refusal>
-        ensures value { Checked (reading_faults reading.now) (λ checked. checked.measured ≡ measured_of reading.now) result }
-        ensures kept { reading.exit.now ≡ reading.entry.now }
+        ensures { Checked (reading_faults reading.now) (λ checked. checked.measured ≡ measured_of reading.now) result }
     {
         if !reading.is_in_range() {
             return Err(Refusal::ReadingOutOfRange);
@@ -100,20 +96,9 @@ impl CheckedReading {
             ramp_up: kilowatts_if_present(reading.ramp_up),
             ramp_down: kilowatts_if_present(reading.ramp_down),
             uigf: kilowatts_if_present(reading.uigf),
-            energy_max: reading.energy_max,
-            agc_status: AgcStatus::from_number(reading.agc_status),
+            energy_max: Power::try_from(reading.energy_max)?,
+            agc_status: AgcStatus::try_from(reading.agc_status)?,
         };
         Ok(CheckedReading { measured })
-    }
-
-    // A unit of the kind can be opened by this reading: a semi-scheduled one needs its forecast.
-    pub fn check_forecast(&self, kind: Kind) -> Result<(), Refusal>
-        ensures value { Checked (forecast_faults kind self.now.measured) (λ _. Unit {0}) result }
-        ensures kept { self.exit.now ≡ self.entry.now }
-    {
-        match (kind, self.measured.uigf) {
-            (Kind::SemiScheduled, None) => Err(Refusal::ForecastMissing),
-            _ => Ok(()),
-        }
     }
 }

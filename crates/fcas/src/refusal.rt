@@ -2,7 +2,10 @@
 ghost use Rattle.std.specs.Prelude.{◌≡◌};
 ghost use Rattle.fcas.specs.Checks.{refusal_number};
 
-#[derive(Clone, Copy)]
+use std::error::Error;
+use std::fmt;
+
+#[derive(Clone, Copy, Debug, PartialEq, Eq)]
 pub enum Refusal {
     KindUnknown,
     ServiceUnknown,
@@ -28,3 +31,20 @@ impl Refusal {
         }
     }
 }
+
+// Why, in words.
+impl fmt::Display for Refusal {
+    fn fmt<W: fmt::Write>(&self, f: &mut fmt::Formatter<W>) -> fmt::Result {
+        f.pad(match self {
+            Refusal::KindUnknown => "a kind is at most 3",
+            Refusal::ServiceUnknown => "a service is at most 9",
+            Refusal::BidTooLarge => "a number of a bid is at most 4000000 kW",
+            Refusal::BidFalls => "the first four numbers of a bid never fall",
+            Refusal::ReadingOutOfRange => "a number of the reading is out of its range",
+            Refusal::PowerTooLarge => "an energy or an amount is at most 4000000 kW",
+            Refusal::ForecastMissing => "a semi-scheduled unit needs its forecast",
+        })
+    }
+}
+
+impl Error for Refusal {}

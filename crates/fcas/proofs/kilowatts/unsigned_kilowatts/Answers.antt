@@ -1,7 +1,7 @@
 use Rattle.std.proofs.Common.{◌≡◌, ℕ, ◌≤◌, T, ℤ, pos, nat_abs, sym, ap, ◌∙◌, subst, arith, w32, Fits, to_z, of_z, rules}
 use lib.Signed.{non_neg}
 use Rattle.std.proofs.lemmas.Int.{ints}
-use Rattle.fcas.proofs.Ranges.{power_in_widest, unsigned_power, unsigned_ramp}
+use Rattle.fcas.proofs.Ranges.{power_in_widest, unsigned_power}
 use Rattle.fcas.proofs.kilowatts.unsigned_kilowatts.Goals as goal
 
 settled : (z : ℤ) (q : ℕ) → z ≡ pos q → q ≤ 4000000 → to_z w32 (of_z w32 z) ≡ pos q
@@ -23,10 +23,4 @@ pub returns : goal.returns
 returns c =
     let p = unsigned_power c.args.megawatts c.requires in
     let e = settled c.kilowatts.result p.0 (c.kilowatts.ensures.value ∙ p.2) p.1 in
-    record {
-      value = ap nat_abs (e ∙ sym p.2);
-      most = subst (λ (z : ℤ). nat_abs z ≤ 4000000) (sym e) p.1;
-      ramp = λ h.
-          let r = unsigned_ramp c.args.megawatts h in
-          subst (λ (z : ℤ). nat_abs z ≤ 800000) (sym (e ∙ sym p.2 ∙ r.2)) r.1;
-    }
+    ap nat_abs (e ∙ sym p.2)

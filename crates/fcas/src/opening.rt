@@ -1,0 +1,106 @@
+// A unit as its interval opens.
+ghost use Rattle.std.specs.Prelude.{◌≡◌, ◌*◌};
+ghost use Rattle.fcas.specs.Checks.{Checked};
+ghost use Rattle.fcas.specs.Live.{energy_available};
+ghost use Rattle.fcas.specs.Reading.{forecast_faults};
+ghost use Rattle.fcas.specs.Service.{service_number};
+ghost use Rattle.fcas.specs.Trapezium.{at_least, at_most, forecast_of, ramp_of, unless_zero};
+ghost use Rattle.std.specs.Option.{option_map};
+
+use crate::kind::Kind;
+use crate::power::{Power, Ramp, UpTo};
+use crate::reading::CheckedReading;
+use crate::refusal::Refusal;
+use crate::service::Service;
+
+// The unit's kind, and what its control system says of it.
+#[derive(Clone, Copy)]
+pub struct Opening {
+    pub kind: Kind,
+    pub reading: CheckedReading,
+}
+
+// A limit that counts only where it is told and not zero.
+pub(crate) fn unless_zero<const MOST: u32>(limit: Option<UpTo<MOST>>) -> Option<UpTo<MOST>>
+    ensures { result ≡ unless_zero limit.entry }
+{
+    match limit {
+        Some(limit) if limit.get() != 0 => Some(limit),
+        _ => None,
+    }
+}
+
+// What a ramp gives in five minutes, where it is told and not zero.
+fn in_five_minutes(ramp: Option<Ramp>) -> Option<Power>
+    ensures { result ≡ option_map (λ each. 5 * each) (unless_zero ramp) }
+{
+    unless_zero(ramp).map(|each| each.in_five_minutes())
+}
+
+impl Opening {
+    // The unit can be opened: a semi-scheduled one needs its forecast.
+    pub fn check_forecast(&self) -> Result<(), Refusal>
+        ensures { Checked (forecast_faults self.now.kind self.now.reading.measured) (λ _. Unit {0}) result }
+    {
+        match (self.kind, self.reading.measured.uigf) {
+            (Kind::SemiScheduled, None) => Err(Refusal::ForecastMissing),
+            _ => Ok(()),
+        }
+    }
+
+    // What the ramp upward gives in the interval.
+    pub fn rise(&self) -> Option<Power>
+        ensures { result ≡ option_map (λ each. 5 * each) (unless_zero self.now.reading.measured.ramp_up) }
+    {
+        in_five_minutes(self.reading.measured.ramp_up)
+    }
+
+    // What the ramp downward gives in it.
+    pub fn fall(&self) -> Option<Power>
+        ensures { result ≡ option_map (λ each. 5 * each) (unless_zero self.now.reading.measured.ramp_down) }
+    {
+        in_five_minutes(self.reading.measured.ramp_down)
+    }
+
+    // What the ramp that bears on a service gives in it.
+    pub(crate) fn ramped(&self, service: Service) -> Option<Power>
+        ensures { result ≡ option_map (λ each. 5 * each) (ramp_of self.now.kind (service_number service) self.now.reading.measured) }
+    {
+        if service == self.kind.upward() {
+            self.rise()
+        } else if service == self.kind.downward() {
+            self.fall()
+        } else {
+            None
+        }
+    }
+
+    // The forecast that bears on a unit of the kind.
+    pub(crate) fn forecast(&self) -> Option<Power>
+        ensures { result ≡ forecast_of self.now.kind self.now.reading.measured }
+    {
+        match self.kind {
+            Kind::SemiScheduled => self.reading.measured.uigf,
+            _ => None,
+        }
+    }
+
+    // The energy that the unit can reach in the interval.
+    pub(crate) fn energy_available(&self) -> Power
+        ensures { result ≡ energy_available self.now.kind self.now.reading.measured }
+    {
+        at_most(self.forecast(), self.reading.measured.energy_max)
+    }
+}
+
+pub(crate) fn at_least(limit: Option<Power>, power: Power) -> Power
+    ensures { result ≡ at_least limit power }
+{
+    limit.map_or(power, |limit| power.max(limit))
+}
+
+pub(crate) fn at_most(limit: Option<Power>, power: Power) -> Power
+    ensures { result ≡ at_most limit power }
+{
+    limit.map_or(power, |limit| power.min(limit))
+}
