@@ -28,6 +28,8 @@ pub type Power = UpTo<4_000_000>;
 // A ramp in kilowatts a minute.
 pub type Ramp = UpTo<800_000>;
 
+pub const NO_POWER: Power = UpTo { number: 0 };
+
 impl<const MOST: u32> UpTo<MOST> {
     pub fn get(self) -> u32
         ensures value { result ≡ self.entry }

@@ -20,6 +20,20 @@ pub enum Service {
     LowerReg,
 }
 
+// All ten, in the order of their numbers.
+pub const SERVICES: [Service; 10] = [
+    Service::Raise1Sec,
+    Service::Raise6Sec,
+    Service::Raise60Sec,
+    Service::Raise5Min,
+    Service::RaiseReg,
+    Service::Lower1Sec,
+    Service::Lower6Sec,
+    Service::Lower60Sec,
+    Service::Lower5Min,
+    Service::LowerReg,
+];
+
 impl Service {
     pub fn number(self) -> u8
         ensures value { result ≡ service_number self }
@@ -41,19 +55,10 @@ impl TryFrom<u32> for Service {
     ghost try_from_gives = { λ number found. Checked (service_faults number) (λ service. service_number service ≡ number) found };
 
     fn try_from(number: u32) -> Result<Service, Refusal> {
-        match number {
-            0 => Ok(Service::Raise1Sec),
-            1 => Ok(Service::Raise6Sec),
-            2 => Ok(Service::Raise60Sec),
-            3 => Ok(Service::Raise5Min),
-            4 => Ok(Service::RaiseReg),
-            5 => Ok(Service::Lower1Sec),
-            6 => Ok(Service::Lower6Sec),
-            7 => Ok(Service::Lower60Sec),
-            8 => Ok(Service::Lower5Min),
-            9 => Ok(Service::LowerReg),
-            _ => Err(Refusal::ServiceUnknown),
-        }
+        SERVICES
+            .get(number as usize)
+            .copied()
+            .ok_or(Refusal::ServiceUnknown)
     }
 }
 
