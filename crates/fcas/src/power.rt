@@ -9,7 +9,7 @@ use std::marker::Model;
 // A whole number from 0 to a greatest one. A contract sees the number alone.
 #[derive(Clone, Copy, Debug, PartialEq, Eq, PartialOrd, Ord)]
 pub struct UpTo<const MOST: u32> {
-    pub(crate) number: u32,
+    pub number: u32,
 }
 
 impl<const MOST: u32> Model for UpTo<MOST> {

@@ -11,3 +11,4 @@ mod Settled
 mod Records
 mod Places
 mod Offers
+mod Services

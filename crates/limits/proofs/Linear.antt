@@ -87,7 +87,7 @@ one_given g p n m = omega (arith, ints)
 
 -- ---- liveness does not depend on the row
 while_live_lem : (offer : Offer) (c held a : ℕ) (s t : Option Sides) → StepsIf c held a s t → StepsIf c held a (while_live offer s) (while_live offer t)
-while_live_lem offer c held a s t h = go offer.live
+while_live_lem offer c held a s t h = go live offer
   where
     go : (b : Bool) → StepsIf c held a (cond b s None) (cond b t None)
     go true = h

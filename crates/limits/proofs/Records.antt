@@ -31,7 +31,7 @@ greatest_same f g e a limit h = record {
   next = subst (λ (b : Limit → Bool). First b limit) (e (a + 1)) h.next;
 }
 
-pub is_live : (offer known : Offer) → offer ≡ known → offer.live ≡ true → known.live ≡ true
+pub is_live : (offer known : Offer) → offer ≡ known → live offer ≡ true → known.live ≡ true
 is_live offer known e live = subst (λ (o : Offer). o.live ≡ true) e live
 
 pub when_live : (b : Bool) (P Q : Type 0) → b ≡ true → P → MatchBool b P Q

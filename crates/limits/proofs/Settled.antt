@@ -20,7 +20,7 @@ pub put_twice : (row : Row) (s a b : ℕ) → with_amount (with_amount row s a) 
 put_twice row s a b = ap (λ (xs : List ℕ). record { unit = row.unit; kind = row.kind; energy = row.energy; amounts = xs }) (set-set row.amounts s a b)
 
 -- the first limit of a live service bounds its amount
-within_live : (offer : Offer) (x : ℕ) → offer.live ≡ true → exceeded (while_live offer (Some (record { lesser = pos x; greater = pos offer.max_availability }))) ≡ false → x ≤ offer.max_availability
+within_live : (offer : Offer) (x : ℕ) → live offer ≡ true → exceeded (while_live offer (Some (record { lesser = pos x; greater = pos offer.max_availability }))) ≡ false → x ≤ offer.max_availability
 within_live offer x live h = ltb-false offer.max_availability x (subst (λ (b : Bool). exceeded (cond b (Some (record { lesser = pos x; greater = pos offer.max_availability })) None) ≡ false) live h)
 
 module _ (allowed : Row → Bool) (terms : Terms) (row : Row) (s : ℕ) (within : s < length row.amounts) (ten : length terms.offers ≡ 10) where

@@ -2,6 +2,7 @@
 use Rattle.std.specs.Prelude.{◌≡◌, ℕ, ◌+◌, ◌<◌, ◌≤◌, Bool, true, List, Some, None, MatchBool, Option, ◌≢◌, slice_index_or}
 use Rattle.fcas.specs.declared.kind.Kind.{Kind}
 use Rattle.limits.specs.Limit.{Borne, First, breaks, limit_by, limit_number, offer_at}
+use Rattle.limits.specs.Offer.{ground_told, live}
 use Rattle.limits.specs.Row.{with_amount}
 use Rattle.limits.specs.declared.figure.Figure.{Figure}
 use Rattle.limits.specs.declared.limit.Limit.{Limit}
@@ -29,17 +30,17 @@ pub record LiveFigure (kind : Kind) (broken : ℕ → Limit → Bool) (told : Fi
 -- A record of a service that is not live: 0, the ground that keeps it out, and itself.
 pub record DeadFigure (terms : Terms) (service : ℕ) (told : Figure) : Type 0 where
   pub figure : told.figure ≡ 0
-  pub ground : told.ground ≡ (offer_at terms service).ground
+  pub ground : told.ground ≡ ground_told (offer_at terms service)
   pub by : told.by ≡ service
 
 -- The record of a service at a row, live or not.
 abbrev pub FigureAt : (Row → Bool) → Terms → Row → ℕ → Figure → Type 0
-FigureAt allowed terms row service told = MatchBool (offer_at terms service).live (LiveFigure terms.kind (breaks_with allowed terms row service) told) (DeadFigure terms service told)
+FigureAt allowed terms row service told = MatchBool (live (offer_at terms service)) (LiveFigure terms.kind (breaks_with allowed terms row service) told) (DeadFigure terms service told)
 
 -- What a probe gives: nothing exactly where the service is not live or not even 0 is borne.
 abbrev pub Probed : (Row → Bool) → Terms → Row → ℕ → Option Figure → Type 0
-Probed allowed terms row service None = (offer_at terms service).live ≡ true → Borne (breaks_with allowed terms row service 0) → ⊥
-Probed allowed terms row service (Some told) = ((offer_at terms service).live ≡ true) × Borne (breaks_with allowed terms row service 0) × LiveFigure terms.kind (breaks_with allowed terms row service) told
+Probed allowed terms row service None = live (offer_at terms service) ≡ true → Borne (breaks_with allowed terms row service 0) → ⊥
+Probed allowed terms row service (Some told) = (live (offer_at terms service) ≡ true) × Borne (breaks_with allowed terms row service 0) × LiveFigure terms.kind (breaks_with allowed terms row service) told
 
 -- The place of a service that is none.
 abbrev pub no_figure : Figure

@@ -1,4 +1,5 @@
 pub mod Terms
+pub mod Offer
 pub mod Row
 pub mod Limit
 pub mod Bounds

@@ -4,6 +4,7 @@ use Rattle.std.specs.Option.{option_map}
 use Rattle.fcas.specs.Kind.{upward, downward}
 use Rattle.fcas.specs.Service.{regulating}
 use Rattle.fcas.specs.declared.kind.Kind.{Kind}
+use Rattle.limits.specs.Offer.{live}
 use Rattle.limits.specs.Row.{amount}
 use Rattle.limits.specs.Terms.{no_offer}
 use Rattle.limits.specs.declared.limit.Limit.{Limit}
@@ -37,7 +38,7 @@ offer_at terms service = slice_index_or terms.offers service no_offer
 
 -- A limit of a service is in force while the service is live.
 abbrev pub while_live : {X : Type 0} → Offer → Option X → Option X
-while_live offer limit = cond offer.live limit None
+while_live offer limit = cond (live offer) limit None
 
 -- The sides of an upper limit. With M the bid's maximum availability, u the run of its upper slope and X the effective enablement maximum: M energy + u amount <= M X.
 abbrev pub upper_sides : Offer → ℤ → ℕ → Sides

@@ -1,5 +1,6 @@
 // The figures of a row.
 ghost use Rattle.std.specs.Prelude.{◌≡◌, ℕ, ◌<◌, true};
+ghost use Rattle.fcas.specs.Service.{service_number};
 ghost use Rattle.limits.specs.Figure.{AllFigures, DeadFigure, FigureAt, no_figure, Probed};
 ghost use Rattle.limits.specs.Limit.{limit_by, limit_number};
 ghost use Rattle.limits.specs.Narrowing.{Held, exceeded_with};
@@ -9,7 +10,7 @@ use crate::narrowing::Best;
 use crate::plant::PlantLimit;
 use crate::row::CheckedRow;
 use crate::terms::CheckedTerms;
-use fcas::{Kind, Service};
+use fcas::{Kind, NO_POWER, SERVICES, Service};
 
 // How much of a service can be given, and the limit that holds it down, by its ground and the service that it is named by.
 #[derive(Clone, Copy)]
@@ -35,12 +36,15 @@ impl Figure {
 
     // The record of a service that is not live.
     fn dead(terms: &CheckedTerms, service: Service) -> Figure
-        ensures { DeadFigure terms.now.terms service.number result }
+        ensures { DeadFigure terms.now.terms (service_number service) result }
     {
         Figure {
             figure: 0,
-            ground: terms.offer(service.number).ground,
-            by: service.number,
+            ground: terms
+                .offer(service.number())
+                .kept_out
+                .map_or(0, |ground| ground.number()),
+            by: service.number(),
         }
     }
 }
@@ -52,17 +56,14 @@ pub fn probe<P: PlantLimit>(
     plant: &P,
     service: Service,
 ) -> Option<Figure>
-    ensures value { Probed (P.PlantLimit.allowed plant.now) terms.now.terms row.now.row service.number result }
-    ensures terms_kept { terms.exit.now ≡ terms.entry.now }
-    ensures row_kept { row.exit.now ≡ row.entry.now }
-    ensures plant_kept { plant.exit.now ≡ plant.entry.now }
+    ensures value { Probed (P.PlantLimit.allowed plant.now) terms.now.terms row.now.row (service_number service) result }
 {
-    if !terms.offer(service.number).live {
+    if !terms.offer(service.number()).is_live() {
         return None;
     }
-    let without = row.without(service);
+    let without = row.with_amount(service, NO_POWER);
     let best = terms.least(&without, service)?;
-    let most = plant.most(&without.row, service.number)?;
+    let most = plant.most(&without.row, service.number())?;
     Some(Figure::live(best.narrowed(Some(most), Limit::Plant), terms.terms.kind))
 }
 
@@ -74,14 +75,14 @@ fn settle<P: PlantLimit>(
     service: Service,
     best: Best,
 ) -> Figure
-    requires held { Held (exceeded_with terms.now.terms row.now.row service.number) 32 best }
+    requires held { Held (exceeded_with terms.now.terms row.now.row (service_number service)) 32 best }
     requires allowed { P.PlantLimit.allowed plant.now row.now.row ≡ true }
-    ensures { FigureAt (P.PlantLimit.allowed plant.now) terms.now.terms row.now.row service.number result }
+    ensures { FigureAt (P.PlantLimit.allowed plant.now) terms.now.terms row.now.row (service_number service) result }
 {
-    if !terms.offer(service.number).live {
+    if !terms.offer(service.number()).is_live() {
         return Figure::dead(terms, service);
     }
-    match plant.most(&row.row, service.number) {
+    match plant.most(&row.row, service.number()) {
         Some(most) => Figure::live(best.narrowed(Some(most), Limit::Plant), terms.terms.kind),
         None => unreachable(),
     }
@@ -94,9 +95,6 @@ pub fn figures<P: PlantLimit>(
     plant: &P,
 ) -> Option<[Figure; 10]>
     ensures value { AllFigures (P.PlantLimit.allowed plant.now) terms.now.terms row.now.row result }
-    ensures terms_kept { terms.exit.now ≡ terms.entry.now }
-    ensures row_kept { row.exit.now ≡ row.entry.now }
-    ensures plant_kept { plant.exit.now ≡ plant.entry.now }
 {
     let best = terms.least_of_all(row)?;
     if !is_allowed(plant, row) {
@@ -107,14 +105,9 @@ pub fn figures<P: PlantLimit>(
         ground: 0,
         by: 0,
     }; 10];
-    for number in 0..10u8 {
-        table[number as usize] = settle(
-            terms,
-            row,
-            plant,
-            Service { number },
-            best[number as usize],
-        );
+    for service in SERVICES {
+        let place = service.number() as usize;
+        table[place] = settle(terms, row, plant, service, best[place]);
     }
     Some(table)
 }

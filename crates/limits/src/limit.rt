@@ -1,14 +1,14 @@
 // The limits of a row, in their order.
 ghost use Rattle.std.specs.Prelude.{◌≡◌, ◌≤◌, pos, ◌+ℤ◌, ◌-ℤ◌, ◌*ℤ◌};
-ghost use Rattle.limits.specs.Bounds.{Bounded, BoundedIf, Moved, Powers, Product};
+ghost use Rattle.limits.specs.Bounds.{Bounded, BoundedIf, Moved, Product};
 ghost use Rattle.fcas.specs.Service.{regulating};
 ghost use Rattle.limits.specs.Narrowing.{earlier_of, first_of_row};
 ghost use Rattle.limits.specs.Limit.{breaks, exceeded, Finds, FindsBefore, limit_by, limit_number, lowered as lowered_energy, lower_sides, offer_at, raised as raised_energy, sides_of, upper_sides};
 
 use crate::plant::PlantLimit;
 use crate::row::CheckedRow;
-use crate::terms::{CheckedTerms, Offer};
-use fcas::Kind;
+use crate::terms::{CheckedTerms, NO_OFFER, Offer};
+use fcas::{Kind, Power};
 
 // A limit: three of each service, those of the two ramps, and the plant's.
 #[derive(Clone, Copy)]
@@ -57,73 +57,56 @@ impl Limit {
             Limit::Availability(service) => service,
             Limit::Upper(service) => service,
             Limit::Lower(service) => service,
-            Limit::RampUp => kind.upward().number,
-            Limit::RampDown => kind.downward().number,
+            Limit::RampUp => kind.upward().number(),
+            Limit::RampDown => kind.downward().number(),
             Limit::Plant => 10,
         }
     }
 }
 
-pub(crate) const NO_OFFER: Offer = Offer {
-    live: false,
-    ground: 11,
-    bid_availability: 0,
-    upper_run: 0,
-    lower_run: 0,
-    enablement_min: 0,
-    enablement_max: 0,
-    max_availability: 0,
-};
-
 // A power times an energy or an amount.
-fn times(power: u32, at: i64) -> i64
-    requires power { power ≤ 4000000 }
-    requires at { Moved at }
+fn times(power: Power, at: i64) -> i64
+    requires { Moved at }
     ensures value { result ≡ pos power *ℤ at }
     ensures bound { Product result }
 {
-    i64::from(power) * at
+    i64::from(power.get()) * at
 }
 
 // The sides of an upper limit at an energy.
-fn upper_sides(offer: Offer, energy: i64, amount: u32) -> Sides
-    requires powers { Powers offer }
-    requires energy { Moved energy }
-    requires amount { amount ≤ 4000000 }
-    ensures value { result ≡ upper_sides offer energy amount }
+fn upper_sides(offer: &Offer, energy: i64, amount: Power) -> Sides
+    requires { Moved energy }
+    ensures value { result ≡ upper_sides offer.now energy amount }
     ensures bound { Bounded result }
 {
     Sides {
-        lesser: times(offer.bid_availability, energy) + times(offer.upper_run, i64::from(amount)),
-        greater: times(offer.bid_availability, i64::from(offer.enablement_max)),
+        lesser: times(offer.bid_availability, energy) + times(offer.upper_run, i64::from(amount.get())),
+        greater: times(offer.bid_availability, i64::from(offer.enablement_max.get())),
     }
 }
 
 // The sides of a lower limit at an energy.
-fn lower_sides(offer: Offer, energy: i64, amount: u32) -> Sides
-    requires powers { Powers offer }
-    requires energy { Moved energy }
-    requires amount { amount ≤ 4000000 }
-    ensures value { result ≡ lower_sides offer energy amount }
+fn lower_sides(offer: &Offer, energy: i64, amount: Power) -> Sides
+    requires { Moved energy }
+    ensures value { result ≡ lower_sides offer.now energy amount }
     ensures bound { Bounded result }
 {
     Sides {
-        lesser: times(offer.bid_availability, i64::from(offer.enablement_min)),
-        greater: times(offer.bid_availability, energy) - times(offer.lower_run, i64::from(amount)),
+        lesser: times(offer.bid_availability, i64::from(offer.enablement_min.get())),
+        greater: times(offer.bid_availability, energy) - times(offer.lower_run, i64::from(amount.get())),
     }
 }
 
 impl CheckedTerms {
     // What a service has to offer; nothing where it is none.
     pub(crate) fn offer(&self, service: u8) -> Offer
-        ensures value { result ≡ offer_at self.now.terms service }
-        ensures powers { Powers result }
+        ensures { result ≡ offer_at self.now.terms service }
     {
-        if service > 9 {
-            NO_OFFER
-        } else {
-            self.terms.offers[service as usize]
-        }
+        self.terms
+            .offers
+            .get(service as usize)
+            .copied()
+            .unwrap_or(NO_OFFER)
     }
 
     // The energy with the upward amount added.
@@ -131,7 +114,7 @@ impl CheckedTerms {
         ensures value { result ≡ raised_energy self.now.terms row.now.row }
         ensures bound { Moved result }
     {
-        i64::from(row.row.energy) + i64::from(row.amount(self.terms.kind.upward().number))
+        i64::from(row.row.energy) + i64::from(row.amount(self.terms.kind.upward().number()).get())
     }
 
     // The energy with the downward amount taken away.
@@ -139,7 +122,7 @@ impl CheckedTerms {
         ensures value { result ≡ lowered_energy self.now.terms row.now.row }
         ensures bound { Moved result }
     {
-        i64::from(row.row.energy) - i64::from(row.amount(self.terms.kind.downward().number))
+        i64::from(row.row.energy) - i64::from(row.amount(self.terms.kind.downward().number()).get())
     }
 }
 
@@ -149,12 +132,12 @@ impl CheckedTerms {
         ensures bound { BoundedIf result }
     {
         let offer = self.offer(service);
-        if !offer.live {
+        if !offer.is_live() {
             return None;
         }
         Some(Sides {
-            lesser: i64::from(row.amount(service)),
-            greater: i64::from(offer.max_availability),
+            lesser: i64::from(row.amount(service).get()),
+            greater: i64::from(offer.max_availability.get()),
         })
     }
 
@@ -163,7 +146,7 @@ impl CheckedTerms {
         ensures bound { BoundedIf result }
     {
         let offer = self.offer(service);
-        if !offer.live {
+        if !offer.is_live() {
             return None;
         }
         let energy = if is_regulating(service) {
@@ -171,7 +154,7 @@ impl CheckedTerms {
         } else {
             self.raised(row)
         };
-        Some(upper_sides(offer, energy, row.amount(service)))
+        Some(upper_sides(&offer, energy, row.amount(service)))
     }
 
     pub(crate) fn lower_limit_sides(&self, row: &CheckedRow, service: u8) -> Option<Sides>
@@ -179,7 +162,7 @@ impl CheckedTerms {
         ensures bound { BoundedIf result }
     {
         let offer = self.offer(service);
-        if !offer.live {
+        if !offer.is_live() {
             return None;
         }
         let energy = if is_regulating(service) {
@@ -187,32 +170,30 @@ impl CheckedTerms {
         } else {
             self.lowered(row)
         };
-        Some(lower_sides(offer, energy, row.amount(service)))
+        Some(lower_sides(&offer, energy, row.amount(service)))
     }
 
     // What the ramp upward reaches.
-    fn highest(&self, rise: u32) -> i64
-        requires { rise ≤ 4000000 }
+    fn highest(&self, rise: Power) -> i64
         ensures value { result ≡ self.now.terms.initial +ℤ pos rise }
         ensures bound { Moved result }
     {
-        i64::from(self.terms.initial) + i64::from(rise)
+        i64::from(self.terms.initial) + i64::from(rise.get())
     }
 
     // What the ramp downward reaches.
-    fn lowest(&self, fall: u32) -> i64
-        requires { fall ≤ 4000000 }
+    fn lowest(&self, fall: Power) -> i64
         ensures value { result ≡ self.now.terms.initial -ℤ pos fall }
         ensures bound { Moved result }
     {
-        i64::from(self.terms.initial) - i64::from(fall)
+        i64::from(self.terms.initial) - i64::from(fall.get())
     }
 
     pub(crate) fn ramp_up_sides(&self, row: &CheckedRow) -> Option<Sides>
         ensures value { result ≡ sides_of self.now.terms row.now.row Limit.RampUp }
         ensures bound { BoundedIf result }
     {
-        if !self.offer(self.terms.kind.upward().number).live {
+        if !self.offer(self.terms.kind.upward().number()).is_live() {
             return None;
         }
         match self.terms.rise {
@@ -228,7 +209,7 @@ impl CheckedTerms {
         ensures value { result ≡ sides_of self.now.terms row.now.row Limit.RampDown }
         ensures bound { BoundedIf result }
     {
-        if !self.offer(self.terms.kind.downward().number).live {
+        if !self.offer(self.terms.kind.downward().number()).is_live() {
             return None;
         }
         match self.terms.fall {
@@ -244,8 +225,6 @@ impl CheckedTerms {
     pub fn sides(&self, row: &CheckedRow, limit: Limit) -> Option<Sides>
         ensures value { result ≡ sides_of self.now.terms row.now.row limit }
         ensures bound { BoundedIf result }
-        ensures terms_kept { self.exit.now ≡ self.entry.now }
-        ensures row_kept { row.exit.now ≡ row.entry.now }
     {
         match limit {
             Limit::Availability(service) => self.availability_sides(row, service),
@@ -328,9 +307,6 @@ pub fn first_broken<P: PlantLimit>(
     plant: &P,
 ) -> Option<Limit>
     ensures value { Finds (breaks (P.PlantLimit.allowed plant.now) terms.now.terms row.now.row) result }
-    ensures terms_kept { terms.exit.now ≡ terms.entry.now }
-    ensures row_kept { row.exit.now ≡ row.entry.now }
-    ensures plant_kept { plant.exit.now ≡ plant.entry.now }
 {
     let rise_breaks = terms.exceeds(row, Limit::RampUp);
     let fall_breaks = terms.exceeds(row, Limit::RampDown);

@@ -1,5 +1,6 @@
 // How much of a service the limits leave: the first least of their caps.
 ghost use Rattle.std.specs.Prelude.{◌≡◌, ℕ, ◌<◌, ◌≤◌, false, ◌-ℤ◌, if◌then◌else◌, Some, nat_eq, slice_index_or, unsigned_abs};
+ghost use Rattle.fcas.specs.Service.{service_number};
 ghost use Rattle.limits.specs.Bounds.{Bounded, BoundedIf};
 ghost use Rattle.limits.specs.Limit.{exceeded, limit_by, sides_of};
 ghost use Rattle.limits.specs.Narrowing.{cap_of, coefficient_of, joint_of, Least, LeastOfAll, Narrowed, NarrowedAll, narrowed_to, no_best};
@@ -8,7 +9,7 @@ ghost use Rattle.limits.specs.Row.{amount as amount_of};
 use crate::limit::{Limit, Sides, is_regulating};
 use crate::row::CheckedRow;
 use crate::terms::CheckedTerms;
-use fcas::{Kind, Service};
+use fcas::{Kind, Power, Service};
 
 // The greatest amount so far, and the limit that breaks above it.
 #[derive(Clone, Copy)]
@@ -45,15 +46,14 @@ fn room(sides: Sides) -> u64
 }
 
 // The greatest amount that room leaves to a service beside what it holds.
-fn cap(held: u32, room: u64, coefficient: u32) -> Option<u32>
-    requires held { held ≤ 4000000 }
-    requires room { room ≤ 128000000000000 }
+fn cap(held: Power, room: u64, coefficient: u32) -> Option<u32>
+    requires { room ≤ 128000000000000 }
     ensures { result ≡ cap_of held room coefficient }
 {
     if coefficient == 0 {
         return None;
     }
-    let most = u64::from(held) + room / u64::from(coefficient);
+    let most = u64::from(held.get()) + room / u64::from(coefficient);
     Some(most.min(4_000_001) as u32)
 }
 
@@ -66,24 +66,24 @@ impl CheckedTerms {
             Limit::Availability(own) => u32::from(service == own),
             Limit::Upper(own) => {
                 if service == own {
-                    self.offer(own).upper_run
-                } else if !is_regulating(own) & (service == self.terms.kind.upward().number) {
-                    self.offer(own).bid_availability
+                    self.offer(own).upper_run.get()
+                } else if !is_regulating(own) & (service == self.terms.kind.upward().number()) {
+                    self.offer(own).bid_availability.get()
                 } else {
                     0
                 }
             }
             Limit::Lower(own) => {
                 if service == own {
-                    self.offer(own).lower_run
-                } else if !is_regulating(own) & (service == self.terms.kind.downward().number) {
-                    self.offer(own).bid_availability
+                    self.offer(own).lower_run.get()
+                } else if !is_regulating(own) & (service == self.terms.kind.downward().number()) {
+                    self.offer(own).bid_availability.get()
                 } else {
                     0
                 }
             }
-            Limit::RampUp => u32::from(service == self.terms.kind.upward().number),
-            Limit::RampDown => u32::from(service == self.terms.kind.downward().number),
+            Limit::RampUp => u32::from(service == self.terms.kind.upward().number()),
+            Limit::RampDown => u32::from(service == self.terms.kind.downward().number()),
             Limit::Plant => 0,
         }
     }
@@ -98,14 +98,14 @@ fn joint(kind: Kind, limit: Limit) -> Option<u8>
             if is_regulating(service) {
                 None
             } else {
-                Some(kind.upward().number)
+                Some(kind.upward().number())
             }
         }
         Limit::Lower(service) => {
             if is_regulating(service) {
                 None
             } else {
-                Some(kind.downward().number)
+                Some(kind.downward().number())
             }
         }
         _ => None,
@@ -210,9 +210,9 @@ impl CheckedTerms {
             row,
             Limit::Upper(own),
             self.upper_limit_sides(row, own),
-            offer.upper_run,
+            offer.upper_run.get(),
             joint,
-            offer.bid_availability,
+            offer.bid_availability.get(),
             best,
         )
     }
@@ -226,9 +226,9 @@ impl CheckedTerms {
             row,
             Limit::Lower(own),
             self.lower_limit_sides(row, own),
-            offer.lower_run,
+            offer.lower_run.get(),
             joint,
-            offer.bid_availability,
+            offer.bid_availability.get(),
             best,
         )
     }
@@ -265,7 +265,7 @@ impl CheckedTerms {
 impl CheckedTerms {
     // The first least cap on a service of all limits but the plant's; nothing where the row exceeds one of them.
     pub(crate) fn least(&self, row: &CheckedRow, service: Service) -> Option<Best>
-        ensures { Least self.now.terms row.now.row service.number result }
+        ensures { Least self.now.terms row.now.row (service_number service) result }
     {
         let mut best = Best {
             most: 4_000_001,
@@ -277,11 +277,11 @@ impl CheckedTerms {
                 Limit::Upper(own),
                 Limit::Lower(own),
             ] {
-                best = self.narrow(row, limit, service.number, best)?;
+                best = self.narrow(row, limit, service.number(), best)?;
             }
         }
-        best = self.narrow(row, Limit::RampUp, service.number, best)?;
-        self.narrow(row, Limit::RampDown, service.number, best)
+        best = self.narrow(row, Limit::RampUp, service.number(), best)?;
+        self.narrow(row, Limit::RampDown, service.number(), best)
     }
 
     // The same of all ten services, in one pass over the limits.

@@ -1,42 +1,23 @@
 // The terms of a unit as its interval opens.
-ghost use Rattle.std.specs.Prelude.{◌≡◌, ◌*◌, ◌≤◌, true, Some};
-ghost use Rattle.fcas.specs.Trapezium.{unless_zero};
-ghost use Rattle.limits.specs.Terms.{all_in_bounds, held_bids, in_bounds, offer_of, offers_from, terms_of};
-ghost use Rattle.std.specs.Option.{option_map, unwrap_or};
+ghost use Rattle.std.specs.Prelude.{◌≡◌, Some};
+ghost use Rattle.fcas.specs.Service.{service_number};
+ghost use Rattle.limits.specs.Terms.{held_bids, offer_of, offers_from, terms_of};
+ghost use Rattle.std.specs.Option.{option_map};
 
-use crate::limit::NO_OFFER;
-use crate::terms::{CheckedTerms, Offer, Terms};
-use fcas::{CheckedBid, CheckedReading, Envelope, Ground, Kind, Service};
-
-// What a ramp gives in five minutes, where it is told and not zero.
-fn in_five_minutes(ramp: Option<u32>) -> Option<u32>
-    requires { unwrap_or ramp 0 ≤ 800000 }
-    ensures value { result ≡ option_map (λ each. 5 * each) (unless_zero ramp) }
-    ensures bound { unwrap_or result 0 ≤ 4000000 }
-{
-    match ramp {
-        Some(0) => None,
-        Some(each) => Some(5 * each),
-        None => None,
-    }
-}
+use crate::terms::{CheckedTerms, NO_OFFER, Offer, Terms};
+use fcas::{CheckedBid, Envelope, Ground, Opening, SERVICES, Service};
 
 // What a service that is bid has to offer.
-fn offer_of_bid(kind: Kind, service: Service, bid: &CheckedBid, reading: &CheckedReading) -> Offer
-    ensures value { result ≡ offer_of kind reading.now.measured service.number (Some bid.now.bid) }
-    ensures bound { in_bounds result ≡ true }
+fn offer_of_bid(opening: &Opening, service: Service, bid: &CheckedBid) -> Offer
+    ensures { result ≡ offer_of opening.now.kind opening.now.reading.measured (service_number service) (Some bid.now.bid) }
 {
-    let envelope = Envelope::new(kind, service, bid, reading);
-    let ground = match Ground::against(kind, service, Some(bid), reading) {
-        Some(ground) => ground.number(),
-        None => 0,
-    };
+    let slopes = bid.slopes();
+    let envelope = Envelope::new(opening, service, bid);
     Offer {
-        live: ground == 0,
-        ground,
-        bid_availability: bid.bid.max_availability,
-        upper_run: bid.bid.enablement_max - bid.bid.high_breakpoint,
-        lower_run: bid.bid.low_breakpoint - bid.bid.enablement_min,
+        kept_out: Ground::against(opening, service, Some(bid)),
+        bid_availability: slopes.max_availability,
+        upper_run: slopes.upper_run,
+        lower_run: slopes.lower_run,
         enablement_min: envelope.enablement_min,
         enablement_max: envelope.enablement_max,
         max_availability: envelope.max_availability,
@@ -44,55 +25,38 @@ fn offer_of_bid(kind: Kind, service: Service, bid: &CheckedBid, reading: &Checke
 }
 
 // What a service has to offer.
-fn offer_of(
-    kind: Kind,
-    service: Service,
-    bid: &Option<CheckedBid>,
-    reading: &CheckedReading,
-) -> Offer
-    ensures value { result ≡ offer_of kind reading.now.measured service.number (option_map (λ checked. checked.bid) bid.now) }
-    ensures bound { in_bounds result ≡ true }
+fn offer_of(opening: &Opening, service: Service, bid: &Option<CheckedBid>) -> Offer
+    ensures { result ≡ offer_of opening.now.kind opening.now.reading.measured (service_number service) (option_map (λ checked. checked.bid) bid.now) }
 {
     match bid {
-        Some(bid) => offer_of_bid(kind, service, bid, reading),
+        Some(bid) => offer_of_bid(opening, service, bid),
         None => NO_OFFER,
     }
 }
 
 // What each service has to offer.
-fn offers_of(kind: Kind, bids: &[Option<CheckedBid>; 10], reading: &CheckedReading) -> [Offer; 10]
-    ensures value { result ≡ offers_from kind reading.now.measured 0 (held_bids bids.now) }
-    ensures bound { all_in_bounds result ≡ true }
+fn offers_of(opening: &Opening, bids: &[Option<CheckedBid>; 10]) -> [Offer; 10]
+    ensures { result ≡ offers_from opening.now.kind opening.now.reading.measured 0 (held_bids bids.now) }
 {
     let mut offers = [NO_OFFER; 10];
-    for number in 0..10u8 {
-        offers[number as usize] = offer_of(
-            kind,
-            Service { number },
-            &bids[number as usize],
-            reading,
-        );
+    for service in SERVICES {
+        let place = service.number() as usize;
+        offers[place] = offer_of(opening, service, &bids[place]);
     }
     offers
 }
 
 impl CheckedTerms {
-    // The terms of a unit of the kind, with these bids and this reading.
-    pub fn new(
-        kind: Kind,
-        bids: &[Option<CheckedBid>; 10],
-        reading: &CheckedReading,
-    ) -> CheckedTerms
-        ensures value { result.terms ≡ terms_of kind (held_bids bids.now) reading.now.measured }
-        ensures bids_kept { bids.exit.now ≡ bids.entry.now }
-        ensures reading_kept { reading.exit.now ≡ reading.entry.now }
+    // The terms of a unit with these bids.
+    pub fn new(opening: &Opening, bids: &[Option<CheckedBid>; 10]) -> CheckedTerms
+        ensures { result.terms ≡ terms_of opening.now.kind (held_bids bids.now) opening.now.reading.measured }
     {
         let terms = Terms {
-            kind,
-            initial: reading.measured.initial,
-            rise: in_five_minutes(reading.measured.ramp_up),
-            fall: in_five_minutes(reading.measured.ramp_down),
-            offers: offers_of(kind, bids, reading),
+            kind: opening.kind,
+            initial: opening.reading.measured.initial,
+            rise: opening.rise(),
+            fall: opening.fall(),
+            offers: offers_of(opening, bids),
         };
         CheckedTerms { terms }
     }

@@ -11,15 +11,11 @@ pub trait PlantLimit {
     ghost allowed: { Self → Row → Bool };
 
     fn allows(&self, row: &Row) -> bool
-        ensures value { result ≡ allowed self.now row.now }
-        ensures plant_kept { self.exit.now ≡ self.entry.now }
-        ensures row_kept { row.exit.now ≡ row.entry.now };
+        ensures { result ≡ allowed self.now row.now };
 
     // The greatest amount of a service with which the row is allowed.
     fn most(&self, row: &Row, service: u8) -> Option<u32>
-        ensures value { Greatest (λ a. allowed self.now (with_amount row.now service a)) service result }
-        ensures plant_kept { self.exit.now ≡ self.entry.now }
-        ensures row_kept { row.exit.now ≡ row.entry.now };
+        ensures { Greatest (λ a. allowed self.now (with_amount row.now service a)) service result };
 
     // An allowed row with one amount lowered is allowed.
     ghost lowering: { (plant : Self) (row : Row) (service a : ℕ) → a ≤ amount row service → allowed plant row ≡ true → allowed plant (with_amount row service a) ≡ true };

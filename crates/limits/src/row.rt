@@ -2,9 +2,10 @@
 ghost use Rattle.std.specs.Prelude.{◌≡◌, ◌≤◌, false, length, pos, ◌≤ℤ◌};
 ghost use Rattle.fcas.specs.Bid.{some_above};
 ghost use Rattle.fcas.specs.Checks.{Checked};
+ghost use Rattle.fcas.specs.Service.{service_number};
 ghost use Rattle.limits.specs.Row.{amount as amount_of, row_faults, with_amount};
 
-use fcas::{Kind, Refusal, Service, some_above};
+use fcas::{Kind, Power, Refusal, Service, UpTo, some_above};
 
 // A row as it is handed over, in kilowatts.
 #[derive(Clone, Copy)]
@@ -36,23 +37,25 @@ impl CheckedRow {
     }
 
     // The amount of a service, 0 for what is none.
-    pub(crate) fn amount(&self, service: u8) -> u32
-        ensures value { result ≡ amount_of self.now.row service }
-        ensures bound { result ≤ 4000000 }
+    pub(crate) fn amount(&self, service: u8) -> Power
+        ensures { result ≡ amount_of self.now.row service }
     {
-        if service > 9 {
-            0
-        } else {
-            self.row.amounts[service as usize]
+        UpTo {
+            number: self
+                .row
+                .amounts
+                .get(service as usize)
+                .copied()
+                .unwrap_or(0),
         }
     }
 
-    // The row with none of a service.
-    pub(crate) fn without(&self, service: Service) -> CheckedRow
-        ensures { result.row ≡ with_amount self.now.row service.number 0 }
+    // The row with another amount of a service.
+    pub fn with_amount(&self, service: Service, amount: Power) -> CheckedRow
+        ensures { result.row ≡ with_amount self.now.row (service_number service) amount }
     {
         let mut row = self.row;
-        row.amounts[service.number as usize] = 0;
+        row.amounts[service.number() as usize] = amount.get();
         CheckedRow { row }
     }
 }
