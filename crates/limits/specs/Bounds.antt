@@ -32,3 +32,7 @@ pub record Powers (offer : Offer) : Type 0 where
   pub min : offer.enablement_min ≤ 4000000
   pub max : offer.enablement_max ≤ 4000000
   pub effective : offer.max_availability ≤ 4000000
+
+abbrev pub PowersIf : Option Offer → Type 0
+PowersIf None = Unit {0}
+PowersIf (Some offer) = Powers offer
