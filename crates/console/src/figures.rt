@@ -105,11 +105,7 @@ pub(crate) fn put_limits(
         "limit                         by                lesser side           greater side              left"
     )?;
     for service in 0..10u8 {
-        for limit in [
-            Limit::Availability(service),
-            Limit::Upper(service),
-            Limit::Lower(service),
-        ] {
+        for limit in Limit::of_service(service) {
             put_limit_if_in_force(terms, row, limit, out)?;
         }
     }

@@ -1,8 +1,8 @@
 -- The first least of the caps of the limits before a place.
-use Rattle.std.proofs.Common.{◌≡◌, ℕ, ◌+◌, ◌*◌, ◌<◌, ◌≤◌, Bool, false, ltb, get_or, Some, None, Option, sym, refl, subst, ⊎_elim, arith}
+use Rattle.std.proofs.Common.{◌≡◌, ℕ, ◌+◌, ◌*◌, ◌<◌, ◌≤◌, Bool, false, ltb, List, get_or, Some, None, Option, sym, refl, subst, ⊎_elim, arith}
 use Rattle.std.proofs.lemmas.Bool.{cases_lt, cond-true, cond-false, lt-ltb, le-ltb}
-use Rattle.limits.specs.Limit.{place}
-use Rattle.limits.specs.Narrowing.{Below, Held, limits_of, narrowed_to}
+use Rattle.limits.specs.Limit.{limits_of, place}
+use Rattle.limits.specs.Narrowing.{Below, Held, narrowed_to}
 use Rattle.limits.specs.declared.limit.Limit.{Limit}
 use Rattle.limits.specs.declared.limit.Limit.TheVariants.{RampUp, RampDown}
 use Rattle.limits.specs.declared.narrowing.Best.{Best}
@@ -39,8 +39,8 @@ module _ (f : ℕ → Limit → Bool) where
       }))
       (cases_lt cap best.most)
 
-  pub held_service : (s i : ℕ) (d : Limit) (best : Best) (cap : Option ℕ) → s < 10 → i < 3 → Held f (3 * s + i) best → UptoIf (λ a. f a (get_or (limits_of s) i d)) cap → Held f (3 * s + (i + 1)) (narrowed_to best cap (get_or (limits_of s) i d))
-  held_service s i d best cap l m h u = held_step (3 * s + i) (3 * s + (i + 1)) (get_or (limits_of s) i d) best cap (place_of s i d m) (λ a. below_more (f a) s i d l m) h u
+  pub held_service : (limits : List Limit) (s i : ℕ) (d : Limit) (best : Best) (cap : Option ℕ) → limits ≡ limits_of s → s < 10 → i < 3 → Held f (3 * s + i) best → UptoIf (λ a. f a (get_or limits i d)) cap → Held f (3 * s + (i + 1)) (narrowed_to best cap (get_or limits i d))
+  held_service limits s i d best cap these l m h u = held_step (3 * s + i) (3 * s + (i + 1)) (get_or limits i d) best cap (place_of limits s i d these m) (λ a. below_more (f a) limits s i d these l m) h u
 
   module _ (ten : (a : ℕ) → TenOnly (f a)) where
     pub held_rise : (best : Best) (cap : Option ℕ) → Held f 30 best → UptoIf (λ a. f a RampUp) cap → Held f 31 (narrowed_to best cap RampUp)

@@ -5,7 +5,7 @@ use Rattle.fcas.specs.Kind.{upward, downward}
 use Rattle.fcas.specs.Service.{regulating}
 use Rattle.fcas.specs.declared.kind.Kind.{Kind}
 use Rattle.fcas.specs.declared.kind.Kind.TheVariants.{Generator, SemiScheduled, Load, DemandResponse}
-use Rattle.limits.specs.Limit.{limit_by, offer_at}
+use Rattle.limits.specs.Limit.{limit_by}
 use Rattle.limits.specs.Narrowing.{cap_by, coefficient_of, joint_of, narrowed_to, no_best}
 use Rattle.limits.specs.declared.limit.Limit.{Limit}
 use Rattle.limits.specs.declared.limit.Limit.TheVariants.{Availability, Upper, Lower, RampUp, RampDown, Plant}
@@ -120,26 +120,3 @@ module _ (terms : Terms) (limit : Limit) (sides : Option Sides) (held : ℕ → 
     where
       same : (i : ℕ) → Some other ≡ Some i → other ≡ i
       same i h = cc
-
--- ---- what each of the two takes from an upper or a lower limit
-none_is_some : (j : ℕ) → ◌≡◌ {A = Option ℕ} None (Some j) → ⊥
-none_is_some j h = let z : ◌≡◌ {A = ℕ} 0 1 = cc in omega arith
-
-joint_takes : (own t j run whole : ℕ) (r : Bool) → cond r None (Some t) ≡ Some j → (j ≡ own → ⊥) → cond (eqb j own) run (cond r 0 (cond (eqb j t) whole 0)) ≡ whole
-joint_takes own t j run whole true e ne = absurd (none_is_some j e)
-joint_takes own t j run whole false e ne =
-    let u : t ≡ j = cc in
-    cond-false (eqb j own) run _ (ne_eqb j own ne) ∙ cond-true (eqb j t) whole 0 (eq-eqb j t (sym u))
-
-module _ (terms : Terms) (own : ℕ) where
-  pub upper_own : coefficient_of terms (Upper own) own ≡ (offer_at terms own).upper_run
-  upper_own = cond-true (eqb own own) _ _ (eq-eqb own own refl)
-
-  pub lower_own : coefficient_of terms (Lower own) own ≡ (offer_at terms own).lower_run
-  lower_own = cond-true (eqb own own) _ _ (eq-eqb own own refl)
-
-  pub upper_joint : (j : ℕ) → joint_of terms.kind (Upper own) ≡ Some j → coefficient_of terms (Upper own) j ≡ (offer_at terms own).bid_availability
-  upper_joint j e = joint_takes own (upward terms.kind) j _ _ (regulating own) e (joint_apart terms.kind (Upper own) j e)
-
-  pub lower_joint : (j : ℕ) → joint_of terms.kind (Lower own) ≡ Some j → coefficient_of terms (Lower own) j ≡ (offer_at terms own).bid_availability
-  lower_joint j e = joint_takes own (downward terms.kind) j _ _ (regulating own) e (joint_apart terms.kind (Lower own) j e)

@@ -1,6 +1,7 @@
 pub mod InBounds
 mod Products
 mod Orders
+mod Live
 mod Breaks
 mod Joint
 mod Linear

@@ -1,7 +1,7 @@
 -- A limit narrows the least so far by its cap.
-use Rattle.std.proofs.Common.{◌≡◌, ℕ, ◌+◌, ◌*◌, ◌<◌, false, length, get_or, Some, None, Option, sym, subst}
-use Rattle.limits.specs.Limit.{exceeded, sides_of}
-use Rattle.limits.specs.Narrowing.{Held, Least, Narrowed, cap_by, coefficient_of, exceeded_with, limits_of, narrowed_to}
+use Rattle.std.proofs.Common.{◌≡◌, ℕ, ◌+◌, ◌*◌, ◌<◌, false, List, length, get_or, Some, None, Option, sym, subst}
+use Rattle.limits.specs.Limit.{exceeded, limits_of, sides_of}
+use Rattle.limits.specs.Narrowing.{Held, Least, Narrowed, cap_by, coefficient_of, exceeded_with, narrowed_to}
 use Rattle.limits.specs.Row.{amount, with_amount}
 use Rattle.limits.specs.declared.limit.Limit.{Limit}
 use Rattle.limits.specs.declared.limit.Limit.TheVariants.{RampUp, RampDown}
@@ -22,9 +22,9 @@ module _ (terms : Terms) (row : Row) (s : ℕ) (within : s < length row.amounts)
   capped_at : (limit : Limit) → exceeded (sides_of terms row limit) ≡ false → UptoIf (λ a. exceeded_with terms row s a limit) (cap_at limit)
   capped_at limit fits = capped (amount row s) (coefficient_of terms limit s) (sides_of terms row limit) (λ a. sides_of terms (with_amount row s a) limit) fits (λ a. linear terms row s a within limit)
 
-  pub at_service : (own i : ℕ) (d : Limit) (best after : Best) → own < 10 → i < 3 → Held (exceeded_with terms row s) (3 * own + i) best → exceeded (sides_of terms row (get_or (limits_of own) i d)) ≡ false → after ≡ narrowed_to best (cap_at (get_or (limits_of own) i d)) (get_or (limits_of own) i d) → Held (exceeded_with terms row s) (3 * own + (i + 1)) after
-  at_service own i d best after l m h fits e =
-      subst (λ (b : Best). Held (exceeded_with terms row s) (3 * own + (i + 1)) b) (sym e) (held_service (exceeded_with terms row s) own i d best (cap_at (get_or (limits_of own) i d)) l m h (capped_at (get_or (limits_of own) i d) fits))
+  pub at_service : (limits : List Limit) (own i : ℕ) (d : Limit) (best after : Best) → limits ≡ limits_of own → own < 10 → i < 3 → Held (exceeded_with terms row s) (3 * own + i) best → exceeded (sides_of terms row (get_or limits i d)) ≡ false → after ≡ narrowed_to best (cap_at (get_or limits i d)) (get_or limits i d) → Held (exceeded_with terms row s) (3 * own + (i + 1)) after
+  at_service limits own i d best after these l m h fits e =
+      subst (λ (b : Best). Held (exceeded_with terms row s) (3 * own + (i + 1)) b) (sym e) (held_service (exceeded_with terms row s) limits own i d best (cap_at (get_or limits i d)) these l m h (capped_at (get_or limits i d) fits))
 
   module _ (ten : length terms.offers ≡ 10) where
     only_ten : (a : ℕ) → TenOnly (exceeded_with terms row s a)

@@ -1,16 +1,19 @@
 -- The order of the limits, for any test of them.
-use Rattle.std.proofs.Common.{◌≡◌, ℕ, zero, suc, ◌+◌, ◌*◌, ◌<◌, ◌≤◌, Bool, false, get_or, sym, refl, ap, subst, ⊎_elim, arith}
+use Rattle.std.proofs.Common.{◌≡◌, ℕ, zero, suc, ◌+◌, ◌*◌, ◌<◌, ◌≤◌, Bool, false, List, get_or, sym, refl, ap, ◌∙◌, subst, ⊎_elim, arith}
 use Rattle.std.proofs.lemmas.Bool.{cases_lt}
-use Rattle.limits.specs.Limit.{place}
-use Rattle.limits.specs.Narrowing.{Below, limits_of}
+use Rattle.limits.specs.Limit.{limits_of, place}
+use Rattle.limits.specs.Narrowing.{Below}
 use Rattle.limits.specs.declared.limit.Limit.{Limit}
 use Rattle.limits.specs.declared.limit.Limit.TheVariants.{Availability, Upper, Lower, RampUp, RampDown, Plant}
 
-pub place_of : (s i : ℕ) (d : Limit) → i < 3 → place (get_or (limits_of s) i d) ≡ 3 * s + i
-place_of s zero d h = omega arith
-place_of s (suc zero) d h = refl
-place_of s (suc (suc zero)) d h = refl
-place_of s (suc (suc (suc i))) d h = absurd (omega arith)
+place_in : (s i : ℕ) (d : Limit) → i < 3 → place (get_or (limits_of s) i d) ≡ 3 * s + i
+place_in s zero d h = omega arith
+place_in s (suc zero) d h = refl
+place_in s (suc (suc zero)) d h = refl
+place_in s (suc (suc (suc i))) d h = absurd (omega arith)
+
+pub place_of : (limits : List Limit) (s i : ℕ) (d : Limit) → limits ≡ limits_of s → i < 3 → place (get_or limits i d) ≡ 3 * s + i
+place_of limits s i d e h = ap (λ (xs : List Limit). place (get_or xs i d)) e ∙ place_in s i d h
 
 -- a number's triple and rest are its own
 triple : (a s i j : ℕ) → i < 3 → j < 3 → 3 * a + j ≡ 3 * s + i → (a ≡ s) × (j ≡ i)
@@ -29,13 +32,13 @@ pub below_none : (f : Limit → Bool) → Below f 0
 below_none f limit h = absurd (omega (arith, h))
 
 -- one limit of a service more
-pub below_more : (f : Limit → Bool) (s i : ℕ) (d : Limit) → s < 10 → i < 3 → Below f (3 * s + i) → f (get_or (limits_of s) i d) ≡ false → Below f (3 * s + (i + 1))
-below_more f s i d m h below here limit l =
+pub below_more : (f : Limit → Bool) (limits : List Limit) (s i : ℕ) (d : Limit) → limits ≡ limits_of s → s < 10 → i < 3 → Below f (3 * s + i) → f (get_or limits i d) ≡ false → Below f (3 * s + (i + 1))
+below_more f limits s i d these m h below here limit l =
     ⊎_elim
     (λ (p : place limit < 3 * s + i). below limit p)
     (λ (p : 3 * s + i ≤ place limit).
     let e : place limit ≡ 3 * s + i = omega arith in
-    subst (λ (x : Limit). f x ≡ false) (sym (at_place limit s i d m h e)) here)
+    subst (λ (x : Limit). f x ≡ false) (sym (at_place limit s i d m h e ∙ ap (λ (xs : List Limit). get_or xs i d) (sym these))) here)
     (cases_lt (place limit) (3 * s + i))
 
 pub below_same : (f : Limit → Bool) (m n : ℕ) → m ≤ n → Below f n → Below f m

@@ -1,5 +1,5 @@
 -- The limits of a row, their order, and the first that breaks.
-use Rattle.std.specs.Prelude.{◌≡◌, ℕ, ◌+◌, ◌*◌, ◌<◌, Bool, true, false, cond, not, ℤ, pos, ◌+ℤ◌, ◌-ℤ◌, ◌*ℤ◌, Some, None, Option, int_lt, slice_index_or}
+use Rattle.std.specs.Prelude.{◌≡◌, ℕ, ◌+◌, ◌*◌, ◌<◌, Bool, true, false, cond, not, List, [], ◌∷◌, ℤ, pos, ◌+ℤ◌, ◌-ℤ◌, ◌*ℤ◌, Some, None, Option, int_lt, slice_index_or}
 use Rattle.std.specs.Option.{option_map}
 use Rattle.fcas.specs.Kind.{upward, downward}
 use Rattle.fcas.specs.Service.{regulating}
@@ -22,6 +22,10 @@ limit_number (Lower service) = cond (regulating service) 3 5
 limit_number RampUp = 6
 limit_number RampDown = 7
 limit_number Plant = 8
+
+-- The limits of a service, in their order.
+abbrev pub limits_of : ℕ → List Limit
+limits_of s = Availability s ∷ Upper s ∷ Lower s ∷ []
 
 -- The service by which a limit is named; 10 stands for the plant.
 abbrev pub limit_by : Kind → Limit → ℕ

@@ -1,5 +1,5 @@
 -- How the first broken limit is found and figures are worked out: each limit caps the amount of a service, and the first least cap stands. No part of the promises.
-use Rattle.std.specs.Prelude.{◌≡◌, ℕ, ◌+◌, ◌/◌, ◌<◌, ◌≤◌, min, Bool, true, false, cond, List, [], ◌∷◌, ◌-ℤ◌, Some, None, Option, ◌==◌, nat_lt, slice_index_or, unsigned_abs}
+use Rattle.std.specs.Prelude.{◌≡◌, ℕ, ◌+◌, ◌/◌, ◌<◌, ◌≤◌, min, Bool, true, false, cond, List, ◌-ℤ◌, Some, None, Option, ◌==◌, nat_lt, slice_index_or, unsigned_abs}
 use Rattle.fcas.specs.Kind.{upward, downward}
 use Rattle.fcas.specs.Service.{regulating}
 use Rattle.fcas.specs.declared.kind.Kind.{Kind}
@@ -11,10 +11,6 @@ use Rattle.limits.specs.declared.limit.Sides.{Sides}
 use Rattle.limits.specs.declared.narrowing.Best.{Best}
 use Rattle.limits.specs.declared.row.Row.{Row}
 use Rattle.limits.specs.declared.terms.Terms.{Terms}
-
--- The limits of a service, in their order.
-abbrev pub limits_of : ℕ → List Limit
-limits_of s = Availability s ∷ Upper s ∷ Lower s ∷ []
 
 -- The first of the limits of the whole row, by whether each breaks; and the earlier of one of the services and one of the row.
 abbrev pub first_of_row : Bool → Bool → Bool → Option Limit
@@ -65,10 +61,10 @@ Narrowed sides held coefficient best limit (Some after) = (exceeded sides ≡ fa
 abbrev pub no_best : Best
 no_best = record { most = 0; limit = Availability 0 }
 
--- What a limit makes of the least so far of every service.
-abbrev pub NarrowedAll : Terms → Row → Limit → List Best → List Best → Bool → Type 0
-NarrowedAll terms row limit before after false = exceeded (sides_of terms row limit) ≡ true
-NarrowedAll terms row limit before after true = (exceeded (sides_of terms row limit) ≡ false)
+-- What a limit makes of the least so far of every service: nothing where the row breaks the limit.
+abbrev pub NarrowedAll : Terms → Row → Limit → List Best → List Best → Option (Unit {0}) → Type 0
+NarrowedAll terms row limit before after None = exceeded (sides_of terms row limit) ≡ true
+NarrowedAll terms row limit before after (Some done) = (exceeded (sides_of terms row limit) ≡ false)
     × ((s : ℕ) → s < 10 → slice_index_or after s no_best ≡ narrowed_to (slice_index_or before s no_best) (cap_by (sides_of terms row limit) (amount row s) (coefficient_of terms limit s)) limit)
 
 -- No limit before a place breaks.

@@ -13,7 +13,7 @@ use crate::terms::CheckedTerms;
 use fcas::{Kind, NO_POWER, SERVICES, Service};
 
 // How much of a service can be given, and the limit that holds it down, by its ground and the service that it is named by.
-#[derive(Clone, Copy)]
+#[derive(Clone, Copy, Debug, PartialEq, Eq, Default)]
 pub struct Figure {
     pub figure: u32,
     pub ground: u8,
@@ -100,11 +100,7 @@ pub fn figures<P: PlantLimit>(
     if !is_allowed(plant, row) {
         return None;
     }
-    let mut table = [Figure {
-        figure: 0,
-        ground: 0,
-        by: 0,
-    }; 10];
+    let mut table = [Figure::default(); 10];
     for service in SERVICES {
         let place = service.number() as usize;
         table[place] = settle(terms, row, plant, service, best[place]);

@@ -1,9 +1,9 @@
 // The limits of a row, in their order.
-ghost use Rattle.std.specs.Prelude.{◌≡◌, ◌≤◌, pos, ◌+ℤ◌, ◌-ℤ◌, ◌*ℤ◌};
+ghost use Rattle.std.specs.Prelude.{◌≡◌, ◌≤◌, Some, pos, ◌+ℤ◌, ◌-ℤ◌, ◌*ℤ◌};
 ghost use Rattle.limits.specs.Bounds.{Bounded, BoundedIf, Moved, Product};
 ghost use Rattle.fcas.specs.Service.{regulating};
 ghost use Rattle.limits.specs.Narrowing.{earlier_of, first_of_row};
-ghost use Rattle.limits.specs.Limit.{breaks, exceeded, Finds, FindsBefore, limit_by, limit_number, lowered as lowered_energy, lower_sides, offer_at, raised as raised_energy, sides_of, upper_sides};
+ghost use Rattle.limits.specs.Limit.{breaks, exceeded, Finds, FindsBefore, limit_by, limit_number, limits_of, lowered as lowered_energy, lower_sides, offer_at, raised as raised_energy, sides_of, upper_sides, while_live};
 
 use crate::plant::PlantLimit;
 use crate::row::CheckedRow;
@@ -11,7 +11,7 @@ use crate::terms::{CheckedTerms, NO_OFFER, Offer};
 use fcas::{Kind, Power};
 
 // A limit: three of each service, those of the two ramps, and the plant's.
-#[derive(Clone, Copy)]
+#[derive(Clone, Copy, Debug, PartialEq, Eq)]
 pub enum Limit {
     Availability(u8),
     Upper(u8),
@@ -22,19 +22,39 @@ pub enum Limit {
 }
 
 // The two sides of a limit: it holds while the lesser is at most the greater. Those of an upper or a lower limit are scaled by the bid's maximum availability.
-#[derive(Clone, Copy)]
+#[derive(Clone, Copy, Debug, PartialEq, Eq)]
 pub struct Sides {
     pub lesser: i64,
     pub greater: i64,
 }
 
+impl Sides {
+    pub(crate) fn is_exceeded(self) -> bool
+        ensures { result ≡ exceeded (Some self) }
+    {
+        self.greater < self.lesser
+    }
+}
+
+// What is no service does not regulate.
 pub(crate) fn is_regulating(service: u8) -> bool
     ensures { result ≡ regulating service }
 {
-    (service == 4) | (service == 9)
+    Service::from_number(u32::from(service)).is_ok_and(|service| service.is_regulating())
 }
 
 impl Limit {
+    // The three limits of a service, in their order.
+    pub fn of_service(service: u8) -> [Limit; 3]
+        ensures { result ≡ limits_of service }
+    {
+        [
+            Limit::Availability(service),
+            Limit::Upper(service),
+            Limit::Lower(service),
+        ]
+    }
+
     // The number of the limit in the rules.
     pub fn number(self) -> u8
         ensures { result ≡ limit_number self }
@@ -109,6 +129,14 @@ impl CheckedTerms {
             .unwrap_or(NO_OFFER)
     }
 
+    // What a live service has to offer; nothing where the service is not live.
+    fn live_offer(&self, service: u8) -> Option<Offer>
+        ensures { result ≡ while_live (offer_at self.now.terms service) (Some (offer_at self.now.terms service)) }
+    {
+        let offer = self.offer(service);
+        if offer.is_live() { Some(offer) } else { None }
+    }
+
     // The energy with the upward amount added.
     fn raised(&self, row: &CheckedRow) -> i64
         ensures value { result ≡ raised_energy self.now.terms row.now.row }
@@ -131,10 +159,7 @@ impl CheckedTerms {
         ensures value { result ≡ sides_of self.now.terms row.now.row (Limit.Availability service) }
         ensures bound { BoundedIf result }
     {
-        let offer = self.offer(service);
-        if !offer.is_live() {
-            return None;
-        }
+        let offer = self.live_offer(service)?;
         Some(Sides {
             lesser: i64::from(row.amount(service).get()),
             greater: i64::from(offer.max_availability.get()),
@@ -145,10 +170,7 @@ impl CheckedTerms {
         ensures value { result ≡ sides_of self.now.terms row.now.row (Limit.Upper service) }
         ensures bound { BoundedIf result }
     {
-        let offer = self.offer(service);
-        if !offer.is_live() {
-            return None;
-        }
+        let offer = self.live_offer(service)?;
         let energy = if is_regulating(service) {
             i64::from(row.row.energy)
         } else {
@@ -161,10 +183,7 @@ impl CheckedTerms {
         ensures value { result ≡ sides_of self.now.terms row.now.row (Limit.Lower service) }
         ensures bound { BoundedIf result }
     {
-        let offer = self.offer(service);
-        if !offer.is_live() {
-            return None;
-        }
+        let offer = self.live_offer(service)?;
         let energy = if is_regulating(service) {
             i64::from(row.row.energy)
         } else {
@@ -193,32 +212,24 @@ impl CheckedTerms {
         ensures value { result ≡ sides_of self.now.terms row.now.row Limit.RampUp }
         ensures bound { BoundedIf result }
     {
-        if !self.offer(self.terms.kind.upward().number()).is_live() {
-            return None;
-        }
-        match self.terms.rise {
-            Some(rise) => Some(Sides {
-                lesser: self.raised(row),
-                greater: self.highest(rise),
-            }),
-            None => None,
-        }
+        self.live_offer(self.terms.kind.upward().number())?;
+        let rise = self.terms.rise?;
+        Some(Sides {
+            lesser: self.raised(row),
+            greater: self.highest(rise),
+        })
     }
 
     pub(crate) fn ramp_down_sides(&self, row: &CheckedRow) -> Option<Sides>
         ensures value { result ≡ sides_of self.now.terms row.now.row Limit.RampDown }
         ensures bound { BoundedIf result }
     {
-        if !self.offer(self.terms.kind.downward().number()).is_live() {
-            return None;
-        }
-        match self.terms.fall {
-            Some(fall) => Some(Sides {
-                lesser: self.lowest(fall),
-                greater: self.lowered(row),
-            }),
-            None => None,
-        }
+        self.live_offer(self.terms.kind.downward().number())?;
+        let fall = self.terms.fall?;
+        Some(Sides {
+            lesser: self.lowest(fall),
+            greater: self.lowered(row),
+        })
     }
 
     // The two sides of a limit at a row, where it is in force.
@@ -242,10 +253,8 @@ impl CheckedTerms {
     fn exceeds(&self, row: &CheckedRow, limit: Limit) -> bool
         ensures { result ≡ exceeded (sides_of self.now.terms row.now.row limit) }
     {
-        match self.sides(row, limit) {
-            Some(sides) => sides.greater < sides.lesser,
-            None => false,
-        }
+        self.sides(row, limit)
+            .is_some_and(|sides| sides.is_exceeded())
     }
 
     // The first limit of a service that breaks.
@@ -254,11 +263,7 @@ impl CheckedTerms {
     {
         let mut broken = None;
         'search: for service in 0..10u8 {
-            for limit in [
-                Limit::Availability(service),
-                Limit::Upper(service),
-                Limit::Lower(service),
-            ] {
+            for limit in Limit::of_service(service) {
                 if self.exceeds(row, limit) {
                     broken = Some(limit);
                     break 'search;
@@ -287,10 +292,7 @@ fn first_of_row(rise_breaks: bool, fall_breaks: bool, is_allowed: bool) -> Optio
 fn earlier(of_services: Option<Limit>, of_row: Option<Limit>) -> Option<Limit>
     ensures { result ≡ earlier_of of_services of_row }
 {
-    match of_services {
-        Some(_) => of_services,
-        None => of_row,
-    }
+    of_services.or(of_row)
 }
 
 // Whether the plant allows a row.

@@ -1,8 +1,8 @@
 // How much of a service the limits leave: the first least of their caps.
 ghost use Rattle.std.specs.Prelude.{◌≡◌, ℕ, ◌<◌, ◌≤◌, false, ◌-ℤ◌, if◌then◌else◌, Some, nat_eq, slice_index_or, unsigned_abs};
 ghost use Rattle.fcas.specs.Service.{service_number};
-ghost use Rattle.limits.specs.Bounds.{Bounded, BoundedIf};
-ghost use Rattle.limits.specs.Limit.{exceeded, limit_by, sides_of};
+ghost use Rattle.limits.specs.Bounds.{Bounded};
+ghost use Rattle.limits.specs.Limit.{exceeded, sides_of};
 ghost use Rattle.limits.specs.Narrowing.{cap_of, coefficient_of, joint_of, Least, LeastOfAll, Narrowed, NarrowedAll, narrowed_to, no_best};
 ghost use Rattle.limits.specs.Row.{amount as amount_of};
 
@@ -12,25 +12,25 @@ use crate::terms::CheckedTerms;
 use fcas::{Kind, Power, Service};
 
 // The greatest amount so far, and the limit that breaks above it.
-#[derive(Clone, Copy)]
+#[derive(Clone, Copy, Debug, PartialEq, Eq)]
 pub struct Best {
     pub most: u32,
     pub limit: Limit,
 }
+
+// Before any limit has narrowed it: above every amount.
+const WIDEST: Best = Best {
+    most: 4_000_001,
+    limit: Limit::Plant,
+};
 
 impl Best {
     pub(crate) fn narrowed(self, cap: Option<u32>, limit: Limit) -> Best
         ensures { result ≡ narrowed_to self cap limit }
     {
         match cap {
-            Some(cap) => {
-                if cap < self.most {
-                    Best { most: cap, limit }
-                } else {
-                    self
-                }
-            }
-            None => self,
+            Some(cap) if cap < self.most => Best { most: cap, limit },
+            _ => self,
         }
     }
 }
@@ -94,20 +94,8 @@ fn joint(kind: Kind, limit: Limit) -> Option<u8>
     ensures { result ≡ joint_of kind limit }
 {
     match limit {
-        Limit::Upper(service) => {
-            if is_regulating(service) {
-                None
-            } else {
-                Some(kind.upward().number())
-            }
-        }
-        Limit::Lower(service) => {
-            if is_regulating(service) {
-                None
-            } else {
-                Some(kind.downward().number())
-            }
-        }
+        Limit::Upper(service) if !is_regulating(service) => Some(kind.upward().number()),
+        Limit::Lower(service) if !is_regulating(service) => Some(kind.downward().number()),
         _ => None,
     }
 }
@@ -136,7 +124,7 @@ impl CheckedTerms {
         let Some(sides) = self.sides(row, limit) else {
             return Some(best);
         };
-        if sides.greater < sides.lesser {
+        if sides.is_exceeded() {
             return None;
         }
         Some(best.narrowed(
@@ -149,116 +137,33 @@ impl CheckedTerms {
         ))
     }
 
-    // What a limit makes of the least so far of every service; false where the row breaks the limit. At most two services take from its room: its own and, by their coefficients, the joint one.
-    fn narrow_all(
-        &self,
-        row: &CheckedRow,
-        limit: Limit,
-        sides: Option<Sides>,
-        coefficient: u32,
-        joint: Option<u8>,
-        joint_coefficient: u32,
-        best: &mut [Best; 10],
-    ) -> bool
-        requires sides { sides ≡ sides_of self.now.terms row.now.row limit }
-        requires bound { BoundedIf sides }
-        requires own { coefficient ≡ coefficient_of self.now.terms limit (limit_by self.now.terms.kind limit) }
-        requires joint { joint ≡ joint_of self.now.terms.kind limit }
-        requires other { (j : ℕ) → joint ≡ Some j → joint_coefficient ≡ coefficient_of self.now.terms limit j }
+    // What a limit makes of the least so far of every service; nothing where the row breaks the limit. At most two services take from its room: its own and the joint one.
+    fn narrow_all(&self, row: &CheckedRow, limit: Limit, best: &mut [Best; 10]) -> Option<()>
         ensures { NarrowedAll self.now.terms row.now.row limit best.old best.new result }
     {
-        let Some(sides) = sides else {
-            return true;
+        let Some(sides) = self.sides(row, limit) else {
+            return Some(());
         };
-        if sides.greater < sides.lesser {
-            return false;
+        if sides.is_exceeded() {
+            return None;
         }
         let room = room(sides);
         let own = limit.by(self.terms.kind);
-        narrow_place(best, own, cap(row.amount(own), room, coefficient), limit);
-        if let Some(other) = joint {
+        narrow_place(
+            best,
+            own,
+            cap(row.amount(own), room, self.coefficient(limit, own)),
+            limit,
+        );
+        if let Some(other) = joint(self.terms.kind, limit) {
             narrow_place(
                 best,
                 other,
-                cap(row.amount(other), room, joint_coefficient),
+                cap(row.amount(other), room, self.coefficient(limit, other)),
                 limit,
             );
         }
-        true
-    }
-
-    fn narrow_availability(&self, row: &CheckedRow, own: u8, best: &mut [Best; 10]) -> bool
-        ensures { NarrowedAll self.now.terms row.now.row (Limit.Availability own) best.old best.new result }
-    {
-        self.narrow_all(
-            row,
-            Limit::Availability(own),
-            self.availability_sides(row, own),
-            1,
-            None,
-            0,
-            best,
-        )
-    }
-
-    fn narrow_upper(&self, row: &CheckedRow, own: u8, best: &mut [Best; 10]) -> bool
-        ensures { NarrowedAll self.now.terms row.now.row (Limit.Upper own) best.old best.new result }
-    {
-        let offer = self.offer(own);
-        let joint = joint(self.terms.kind, Limit::Upper(own));
-        self.narrow_all(
-            row,
-            Limit::Upper(own),
-            self.upper_limit_sides(row, own),
-            offer.upper_run.get(),
-            joint,
-            offer.bid_availability.get(),
-            best,
-        )
-    }
-
-    fn narrow_lower(&self, row: &CheckedRow, own: u8, best: &mut [Best; 10]) -> bool
-        ensures { NarrowedAll self.now.terms row.now.row (Limit.Lower own) best.old best.new result }
-    {
-        let offer = self.offer(own);
-        let joint = joint(self.terms.kind, Limit::Lower(own));
-        self.narrow_all(
-            row,
-            Limit::Lower(own),
-            self.lower_limit_sides(row, own),
-            offer.lower_run.get(),
-            joint,
-            offer.bid_availability.get(),
-            best,
-        )
-    }
-
-    fn narrow_rise(&self, row: &CheckedRow, best: &mut [Best; 10]) -> bool
-        ensures { NarrowedAll self.now.terms row.now.row Limit.RampUp best.old best.new result }
-    {
-        self.narrow_all(
-            row,
-            Limit::RampUp,
-            self.ramp_up_sides(row),
-            1,
-            None,
-            0,
-            best,
-        )
-    }
-
-    fn narrow_fall(&self, row: &CheckedRow, best: &mut [Best; 10]) -> bool
-        ensures { NarrowedAll self.now.terms row.now.row Limit.RampDown best.old best.new result }
-    {
-        self.narrow_all(
-            row,
-            Limit::RampDown,
-            self.ramp_down_sides(row),
-            1,
-            None,
-            0,
-            best,
-        )
+        Some(())
     }
 }
 
@@ -267,16 +172,9 @@ impl CheckedTerms {
     pub(crate) fn least(&self, row: &CheckedRow, service: Service) -> Option<Best>
         ensures { Least self.now.terms row.now.row (service_number service) result }
     {
-        let mut best = Best {
-            most: 4_000_001,
-            limit: Limit::Plant,
-        };
+        let mut best = WIDEST;
         for own in 0..10u8 {
-            for limit in [
-                Limit::Availability(own),
-                Limit::Upper(own),
-                Limit::Lower(own),
-            ] {
+            for limit in Limit::of_service(own) {
                 best = self.narrow(row, limit, service.number(), best)?;
             }
         }
@@ -288,27 +186,14 @@ impl CheckedTerms {
     pub(crate) fn least_of_all(&self, row: &CheckedRow) -> Option<[Best; 10]>
         ensures { LeastOfAll self.now.terms row.now.row result }
     {
-        let mut best = [Best {
-            most: 4_000_001,
-            limit: Limit::Plant,
-        }; 10];
+        let mut best = [WIDEST; 10];
         for own in 0..10u8 {
-            if !self.narrow_availability(row, own, &mut best) {
-                return None;
-            }
-            if !self.narrow_upper(row, own, &mut best) {
-                return None;
-            }
-            if !self.narrow_lower(row, own, &mut best) {
-                return None;
+            for limit in Limit::of_service(own) {
+                self.narrow_all(row, limit, &mut best)?;
             }
         }
-        if !self.narrow_rise(row, &mut best) {
-            return None;
-        }
-        if !self.narrow_fall(row, &mut best) {
-            return None;
-        }
+        self.narrow_all(row, Limit::RampUp, &mut best)?;
+        self.narrow_all(row, Limit::RampDown, &mut best)?;
         Some(best)
     }
 }

@@ -6,8 +6,8 @@ use Rattle.limits.proofs.terms.CheckedTerms.least.Goals as goal
 pub loop-limit-preserved : goal.loop-limit-preserved
 loop-limit-preserved c =
     let within : c.args.service.number < length c.args.row.now.row.amounts = omega (arith, c.args.row.now.ten, c.args.service.one_of_ten) in
-    at_service c.args.self.now.terms c.args.row.now.row c.args.service.number within c.loop-own.own c.loop-limit.limit-index (Availability 0) c.loop-limit.best c.in_ok-best.best
-    c.loop-own-test.true c.loop-limit-test.true c.loop-limit.invariant c.in_ok-best.ensures.0 c.in_ok-best.ensures.1
+    at_service c.args.self.now.terms c.args.row.now.row c.args.service.number within c.of_service-limit-items.result c.loop-own.own c.loop-limit.limit-index (Availability 0) c.loop-limit.best c.in_ok-best.best
+    c.of_service-limit-items.ensures c.loop-own-test.true c.loop-limit-test.true c.loop-limit.invariant c.in_ok-best.ensures.0 c.in_ok-best.ensures.1
 
 pub returns : goal.returns
 returns c =
