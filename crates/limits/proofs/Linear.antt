@@ -9,6 +9,7 @@ use Rattle.fcas.specs.Kind.{upward, downward}
 use Rattle.fcas.specs.Service.{regulating}
 use Rattle.limits.specs.Limit.{lowered, lower_sides, offer_at, raised, sides_of, upper_sides, while_live}
 use Rattle.limits.specs.Narrowing.{coefficient_of}
+use Rattle.limits.specs.Offer.{live}
 use Rattle.limits.specs.Row.{amount, with_amount}
 use Rattle.limits.specs.declared.limit.Limit.{Limit}
 use Rattle.limits.specs.declared.limit.Limit.TheVariants.{Availability, Upper, Lower, RampUp, RampDown, Plant}
@@ -87,7 +88,7 @@ one_given g p n m = omega (arith, ints)
 
 -- ---- liveness does not depend on the row
 while_live_lem : (offer : Offer) (c held a : ℕ) (s t : Option Sides) → StepsIf c held a s t → StepsIf c held a (while_live offer s) (while_live offer t)
-while_live_lem offer c held a s t h = go live offer
+while_live_lem offer c held a s t h = go (live offer)
   where
     go : (b : Bool) → StepsIf c held a (cond b s None) (cond b t None)
     go true = h

@@ -4,6 +4,7 @@ use Rattle.std.proofs.lemmas.Bool.{both_ways, not_from_false}
 use Rattle.fcas.specs.declared.kind.Kind.{Kind}
 use Rattle.limits.specs.Figure.{GreatestBorne, LiveFigure}
 use Rattle.limits.specs.Limit.{Borne, First, breaks, exceeded, limit_by, limit_number, place, sides_of}
+use Rattle.limits.specs.Offer.{live}
 use Rattle.limits.specs.declared.figure.Figure.{Figure}
 use Rattle.limits.specs.declared.limit.Limit.{Limit}
 use Rattle.limits.specs.declared.limit.Limit.TheVariants.{Plant}
@@ -31,8 +32,8 @@ greatest_same f g e a limit h = record {
   next = subst (λ (b : Limit → Bool). First b limit) (e (a + 1)) h.next;
 }
 
-pub is_live : (offer known : Offer) → offer ≡ known → live offer ≡ true → known.live ≡ true
-is_live offer known e live = subst (λ (o : Offer). o.live ≡ true) e live
+pub is_live : (offer known : Offer) → offer ≡ known → live offer ≡ true → live known ≡ true
+is_live offer known e h = subst (λ (o : Offer). live o ≡ true) e h
 
 pub when_live : (b : Bool) (P Q : Type 0) → b ≡ true → P → MatchBool b P Q
 when_live b P Q e p = subst (λ (x : Bool). MatchBool x P Q) (sym e) p

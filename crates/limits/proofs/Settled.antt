@@ -6,6 +6,7 @@ use Rattle.limits.specs.Figure.{GreatestBorne, breaks_with}
 use Rattle.limits.specs.Limit.{Borne, breaks, exceeded, offer_at, place, while_live}
 use Rattle.limits.specs.Narrowing.{Held, exceeded_with, narrowed_to}
 use Rattle.limits.specs.Plant.{Most}
+use Rattle.limits.specs.Offer.{live}
 use Rattle.limits.specs.Row.{amount, with_amount}
 use Rattle.limits.specs.declared.limit.Limit.{Limit}
 use Rattle.limits.specs.declared.limit.Limit.TheVariants.{Availability, Plant}
@@ -24,7 +25,7 @@ within_live : (offer : Offer) (x : ℕ) → live offer ≡ true → exceeded (wh
 within_live offer x live h = ltb-false offer.max_availability x (subst (λ (b : Bool). exceeded (cond b (Some (record { lesser = pos x; greater = pos offer.max_availability })) None) ≡ false) live h)
 
 module _ (allowed : Row → Bool) (terms : Terms) (row : Row) (s : ℕ) (within : s < length row.amounts) (ten : length terms.offers ≡ 10) where
-  pub live_bound : (n : ℕ) (best : Best) → s < 10 → 32 ≤ n → (offer_at terms s).live ≡ true → Held (exceeded_with terms row s) n best → best.most ≤ (offer_at terms s).max_availability
+  pub live_bound : (n : ℕ) (best : Best) → s < 10 → 32 ≤ n → live (offer_at terms s) ≡ true → Held (exceeded_with terms row s) n best → best.most ≤ (offer_at terms s).max_availability
   live_bound n best l m live h =
       subst (λ (x : ℕ). x ≤ (offer_at terms s).max_availability) (get_or-set_same row.amounts s best.most 0 within)
       (within_live (offer_at terms s) _ live (h.low best.most (omega arith) (Availability s) (omega arith)))

@@ -1,5 +1,5 @@
 -- Whether a service is live, by what it has to offer.
-use Rattle.std.specs.Prelude.{ℕ, Bool, Option, is_none}
+use Rattle.std.specs.Prelude.{ℕ, Bool, is_none}
 use Rattle.std.specs.Option.{option_map, unwrap_or}
 use Rattle.fcas.specs.Live.{ground_number}
 use Rattle.limits.specs.declared.terms.Offer.{Offer}

@@ -38,13 +38,14 @@ impl Figure {
     fn dead(terms: &CheckedTerms, service: Service) -> Figure
         ensures { DeadFigure terms.now.terms (service_number service) result }
     {
+        let number = service.number();
         Figure {
             figure: 0,
             ground: terms
-                .offer(service.number())
+                .offer(number)
                 .kept_out
                 .map_or(0, |ground| ground.number()),
-            by: service.number(),
+            by: number,
         }
     }
 }
@@ -58,12 +59,13 @@ pub fn probe<P: PlantLimit>(
 ) -> Option<Figure>
     ensures value { Probed (P.PlantLimit.allowed plant.now) terms.now.terms row.now.row (service_number service) result }
 {
-    if !terms.offer(service.number()).is_live() {
+    let number = service.number();
+    if !terms.offer(number).is_live() {
         return None;
     }
     let without = row.with_amount(service, NO_POWER);
     let best = terms.least(&without, service)?;
-    let most = plant.most(&without.row, service.number())?;
+    let most = plant.most(&without.row, number)?;
     Some(Figure::live(best.narrowed(Some(most), Limit::Plant), terms.terms.kind))
 }
 
@@ -79,10 +81,11 @@ fn settle<P: PlantLimit>(
     requires allowed { P.PlantLimit.allowed plant.now row.now.row ≡ true }
     ensures { FigureAt (P.PlantLimit.allowed plant.now) terms.now.terms row.now.row (service_number service) result }
 {
-    if !terms.offer(service.number()).is_live() {
+    let number = service.number();
+    if !terms.offer(number).is_live() {
         return Figure::dead(terms, service);
     }
-    match plant.most(&row.row, service.number()) {
+    match plant.most(&row.row, number) {
         Some(most) => Figure::live(best.narrowed(Some(most), Limit::Plant), terms.terms.kind),
         None => unreachable(),
     }

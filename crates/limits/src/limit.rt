@@ -8,7 +8,7 @@ ghost use Rattle.limits.specs.Limit.{breaks, exceeded, Finds, FindsBefore, limit
 use crate::plant::PlantLimit;
 use crate::row::CheckedRow;
 use crate::terms::{CheckedTerms, NO_OFFER, Offer};
-use fcas::{Kind, Power};
+use fcas::{Kind, Power, Service};
 
 // A limit: three of each service, those of the two ramps, and the plant's.
 #[derive(Clone, Copy, Debug, PartialEq, Eq)]
@@ -40,7 +40,7 @@ impl Sides {
 pub(crate) fn is_regulating(service: u8) -> bool
     ensures { result ≡ regulating service }
 {
-    Service::from_number(u32::from(service)).is_ok_and(|service| service.is_regulating())
+    Service::try_from(u32::from(service)).is_ok_and(|service| service.is_regulating())
 }
 
 impl Limit {
@@ -100,8 +100,12 @@ fn upper_sides(offer: &Offer, energy: i64, amount: Power) -> Sides
     ensures bound { Bounded result }
 {
     Sides {
-        lesser: times(offer.bid_availability, energy) + times(offer.upper_run, i64::from(amount.get())),
-        greater: times(offer.bid_availability, i64::from(offer.enablement_max.get())),
+        lesser: times(offer.bid_availability, energy)
+            + times(offer.upper_run, i64::from(amount.get())),
+        greater: times(
+            offer.bid_availability,
+            i64::from(offer.enablement_max.get()),
+        ),
     }
 }
 
@@ -112,21 +116,29 @@ fn lower_sides(offer: &Offer, energy: i64, amount: Power) -> Sides
     ensures bound { Bounded result }
 {
     Sides {
-        lesser: times(offer.bid_availability, i64::from(offer.enablement_min.get())),
-        greater: times(offer.bid_availability, energy) - times(offer.lower_run, i64::from(amount.get())),
+        lesser: times(
+            offer.bid_availability,
+            i64::from(offer.enablement_min.get()),
+        ),
+        greater: times(offer.bid_availability, energy)
+            - times(offer.lower_run, i64::from(amount.get())),
     }
 }
 
 impl CheckedTerms {
     // What a service has to offer; nothing where it is none.
     pub(crate) fn offer(&self, service: u8) -> Offer
-        ensures { result ≡ offer_at self.now.terms service }
+        ensures value { result ≡ offer_at self.now.terms service }
+        ensures most { result.max_availability ≤ 4000000 }
     {
-        self.terms
+        let offer = self
+            .terms
             .offers
             .get(service as usize)
             .copied()
-            .unwrap_or(NO_OFFER)
+            .unwrap_or(NO_OFFER);
+        prove!(offer.max_availability.get() <= 4_000_000);
+        offer
     }
 
     // What a live service has to offer; nothing where the service is not live.

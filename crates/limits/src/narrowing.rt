@@ -172,14 +172,15 @@ impl CheckedTerms {
     pub(crate) fn least(&self, row: &CheckedRow, service: Service) -> Option<Best>
         ensures { Least self.now.terms row.now.row (service_number service) result }
     {
+        let number = service.number();
         let mut best = WIDEST;
         for own in 0..10u8 {
             for limit in Limit::of_service(own) {
-                best = self.narrow(row, limit, service.number(), best)?;
+                best = self.narrow(row, limit, number, best)?;
             }
         }
-        best = self.narrow(row, Limit::RampUp, service.number(), best)?;
-        self.narrow(row, Limit::RampDown, service.number(), best)
+        best = self.narrow(row, Limit::RampUp, number, best)?;
+        self.narrow(row, Limit::RampDown, number, best)
     }
 
     // The same of all ten services, in one pass over the limits.

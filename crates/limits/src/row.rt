@@ -41,16 +41,12 @@ impl CheckedRow {
         ensures { result ≡ amount_of self.now.row service }
     {
         UpTo {
-            number: self
-                .row
-                .amounts
-                .get(service as usize)
-                .copied()
-                .unwrap_or(0),
+            number: self.row.amounts.get(service as usize).copied().unwrap_or(0),
         }
     }
 
     // The row with another amount of a service.
+    #[tactic(auto, using(crate::proofs::InBounds::none_above_set))]
     pub fn with_amount(&self, service: Service, amount: Power) -> CheckedRow
         ensures { result.row ≡ with_amount self.now.row (service_number service) amount }
     {

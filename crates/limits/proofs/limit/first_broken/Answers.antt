@@ -1,4 +1,4 @@
-use Rattle.std.proofs.Common.{Option, sym, refl, ap, ◌∙◌, subst}
+use Rattle.std.proofs.Common.{Option, sym, ap, ◌∙◌, subst}
 use Rattle.limits.specs.Limit.{Finds, breaks}
 use Rattle.limits.specs.Narrowing.{earlier_of}
 use Rattle.limits.specs.declared.limit.Limit.{Limit}
@@ -11,7 +11,4 @@ returns g c = record {
       (sym (c.earlier.ensures ∙ ap (earlier_of c.first_of_services.result) c.first_of_row.ensures))
       (first_of_all c.args.terms.now.terms c.args.row.now.row c.args.terms.now.ten (g.P.PlantLimit.allowed c.args.plant.now) c.first_of_services.result _ _ _
       c.first_of_services.ensures c.exceeds-rise_breaks.ensures c.exceeds-fall_breaks.ensures c.is_allowed.ensures);
-  terms_kept = refl;
-  row_kept = refl;
-  plant_kept = refl;
 }

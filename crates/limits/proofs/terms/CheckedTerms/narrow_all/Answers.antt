@@ -16,8 +16,8 @@ returns-in-Some-joint c =
       two_narrowed c.args.self.now.terms c.args.limit (sides_of c.args.self.now.terms c.args.row.now.row c.args.limit) (amount c.args.row.now.row) c.args.best.now
           c.by-own.result c.in-Some-joint.other c.cap.result c.cap-in-Some-joint.result c.narrow_place.new.best c.narrow_place-in-Some-joint.new.best
           c.by-own.ensures (sym c.in-Some-joint.ensures)
-          (known _ c.in-Some.sides _ _ _ _ _ _ c.in-Some.ensures.value c.cap.ensures c.amount.ensures.value c.room-room.ensures.value c.coefficient.ensures)
-          (known _ c.in-Some.sides _ _ _ _ _ _ c.in-Some.ensures.value c.cap-in-Some-joint.ensures c.amount-in-Some-joint.ensures.value c.room-room.ensures.value c.coefficient-in-Some-joint.ensures)
+          (known _ c.in-Some.sides _ _ _ _ _ _ c.in-Some.ensures.value c.cap.ensures c.amount.ensures c.room-room.ensures.value c.coefficient.ensures)
+          (known _ c.in-Some.sides _ _ _ _ _ _ c.in-Some.ensures.value c.cap-in-Some-joint.ensures c.amount-in-Some-joint.ensures c.room-room.ensures.value c.coefficient-in-Some-joint.ensures)
           c.narrow_place.ensures c.narrow_place-in-Some-joint.ensures,
     )
 
@@ -28,6 +28,6 @@ returns-in_default-joint c =
       one_narrowed c.args.self.now.terms c.args.limit (sides_of c.args.self.now.terms c.args.row.now.row c.args.limit) (amount c.args.row.now.row) c.args.best.now
           c.by-own.result c.cap.result c.narrow_place.new.best
           c.by-own.ensures (sym c.in_default-joint.ensures)
-          (known _ c.in-Some.sides _ _ _ _ _ _ c.in-Some.ensures.value c.cap.ensures c.amount.ensures.value c.room-room.ensures.value c.coefficient.ensures)
+          (known _ c.in-Some.sides _ _ _ _ _ _ c.in-Some.ensures.value c.cap.ensures c.amount.ensures c.room-room.ensures.value c.coefficient.ensures)
           c.narrow_place.ensures,
     )
