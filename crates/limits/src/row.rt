@@ -46,7 +46,6 @@ impl CheckedRow {
     }
 
     // The row with another amount of a service.
-    #[tactic(auto, using(crate::proofs::InBounds::none_above_set))]
     pub fn with_amount(&self, service: Service, amount: Power) -> CheckedRow
         ensures { result.row ≡ with_amount self.now.row (service_number service) amount }
     {

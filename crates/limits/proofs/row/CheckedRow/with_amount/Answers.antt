@@ -1,0 +1,6 @@
+use Rattle.std.proofs.Common.{rules}
+use Rattle.limits.proofs.InBounds.{none_above_set}
+use Rattle.limits.proofs.row.CheckedRow.with_amount.Goals as goal
+
+pub invariant_of-result-clause-amounts_in_range : goal.invariant_of-result-clause-amounts_in_range
+invariant_of-result-clause-amounts_in_range c = search (rules, none_above_set)
