@@ -2,7 +2,13 @@
 use Rattle.std.proofs.Common.{◌≡◌, ℕ, ◌+◌, ◌-◌, ◌*◌, ◌^◌, ◌<◌, ◌≤◌, Bool, true, false, cond, ltb, List, [], ◌∷◌, length, get_or, drop, Some, None, Option, sym, refl, ap, ◌∙◌, arith}
 use Rattle.std.proofs.lemmas.List.{drop_all, drop_more}
 use Rattle.std.proofs.lemmas.Bool.{cond-true, cond-false, le-ltb, lt-ltb, ltb-false, ltb-true}
+use Rattle.std.specs.Char.{is_ascii_digit}
+use Rattle.std.proofs.lemmas.Bool.Decides.{nat_tests}
 use Rattle.numerals.specs.Numerals.{in_word, is_digit, spelled_from, whole_of}
+
+-- the library's digits
+same_digit : (byte : ℕ) → is_ascii_digit byte ≡ is_digit byte
+same_digit byte = grind (arith, nat_tests)
 
 -- the number after one digit more
 abbrev pub more : ℕ → ℕ → ℕ
@@ -11,11 +17,11 @@ more n byte = n * 10 + (byte - 48)
 one : (n i : ℕ) (word : List ℕ) → i < length word → spelled_from n (drop i word) ≡ cond (is_digit (get_or word i 0)) (spelled_from (more n (get_or word i 0)) (drop (i + 1) word)) None
 one n i word l = ap (spelled_from n) (drop_more word i 0 l)
 
-pub digit : (n i : ℕ) (word : List ℕ) → i < length word → true ≡ is_digit (get_or word i 0) → spelled_from 0 word ≡ spelled_from n (drop i word) → spelled_from 0 word ≡ spelled_from (more n (get_or word i 0)) (drop (i + 1) word)
-digit n i word l d e = e ∙ one n i word l ∙ cond-true (is_digit (get_or word i 0)) _ _ (sym d)
+pub digit : (n i : ℕ) (word : List ℕ) → i < length word → true ≡ is_ascii_digit (get_or word i 0) → spelled_from 0 word ≡ spelled_from n (drop i word) → spelled_from 0 word ≡ spelled_from (more n (get_or word i 0)) (drop (i + 1) word)
+digit n i word l d e = e ∙ one n i word l ∙ cond-true (is_digit (get_or word i 0)) _ _ (sym (d ∙ same_digit (get_or word i 0)))
 
-pub no_digit : (n i : ℕ) (word : List ℕ) → i < length word → false ≡ is_digit (get_or word i 0) → spelled_from 0 word ≡ spelled_from n (drop i word) → None ≡ whole_of word
-no_digit n i word l d e = sym (ap in_word (e ∙ one n i word l ∙ cond-false (is_digit (get_or word i 0)) _ _ (sym d)))
+pub no_digit : (n i : ℕ) (word : List ℕ) → i < length word → false ≡ is_ascii_digit (get_or word i 0) → spelled_from 0 word ≡ spelled_from n (drop i word) → None ≡ whole_of word
+no_digit n i word l d e = sym (ap in_word (e ∙ one n i word l ∙ cond-false (is_digit (get_or word i 0)) _ _ (sym (d ∙ same_digit (get_or word i 0)))))
 
 next_large : (d : Bool) (o : Option ℕ) → in_word o ≡ None → in_word (cond d o None) ≡ None
 next_large true o e = e
@@ -30,7 +36,7 @@ is_large : (m : ℕ) (b : Bool) → ltb m (2 ^ 64) ≡ b → None ≡ cond b (So
 is_large m true e h = let z : ◌≡◌ {A = ℕ} 0 1 = cc in absurd (omega (arith, z))
 is_large m false e h = ltb-false m (2 ^ 64) e
 
-pub overflow : (n i : ℕ) (word : List ℕ) → i < length word → true ≡ is_digit (get_or word i 0) → spelled_from 0 word ≡ spelled_from n (drop i word) → None ≡ in_word (Some (more n (get_or word i 0))) → None ≡ whole_of word
+pub overflow : (n i : ℕ) (word : List ℕ) → i < length word → true ≡ is_ascii_digit (get_or word i 0) → spelled_from 0 word ≡ spelled_from n (drop i word) → None ≡ in_word (Some (more n (get_or word i 0))) → None ≡ whole_of word
 overflow n i word l d e h = sym (ap in_word (digit n i word l d e) ∙ too_large (more n (get_or word i 0)) (drop (i + 1) word) (is_large (more n (get_or word i 0)) (ltb (more n (get_or word i 0)) (2 ^ 64)) refl h))
 
 is_small : (m k : ℕ) (b : Bool) → ltb m (2 ^ 64) ≡ b → Some k ≡ cond b (Some m) None → (k ≡ m) × (k < 2 ^ 64)

@@ -76,8 +76,12 @@ module _ (plant : ConnectionCap) (row : Row) (s : ℕ) (within : s < length row.
       rw (ap (amount row) e, here a d e, elsewhere a u (λ f. apart row.kind (sym f ∙ e))) (second_takes row.energy (amount row u) (amount row d) a (cap_of_unit plant row.unit)))
       (or_cases (s == u) (s == d) t)
 
-  -- and of one that does not
-  pub room_else : (s == upward row.kind || s == delayed row.kind) ≡ false → (a : ℕ) → int_le (pos 0) ((pos (cap_of_unit plant row.unit) -ℤ flow row) +ℤ pos 0) ≡ cap_allows plant (with_amount row s a)
-  room_else t a =
+  -- one that does not leaves the flow as it is
+  pub flow_beside : (s == upward row.kind || s == delayed row.kind) ≡ false → (a : ℕ) → cap_allows plant row ≡ cap_allows plant (with_amount row s a)
+  flow_beside t a =
       let p = or_parts (s == u) (s == d) t in
-      rw (elsewhere a u (eqb-false s u p.0), elsewhere a d (eqb-false s d p.1)) (neither_takes row.energy (amount row u) (amount row d) (cap_of_unit plant row.unit))
+      rw (elsewhere a u (eqb-false s u p.0), elsewhere a d (eqb-false s d p.1))
+
+  -- and has its room
+  pub room_else : (s == upward row.kind || s == delayed row.kind) ≡ false → (a : ℕ) → int_le (pos 0) ((pos (cap_of_unit plant row.unit) -ℤ flow row) +ℤ pos 0) ≡ cap_allows plant (with_amount row s a)
+  room_else t a = neither_takes row.energy (amount row u) (amount row d) (cap_of_unit plant row.unit) ∙ flow_beside t a

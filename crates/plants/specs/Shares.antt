@@ -1,6 +1,7 @@
 -- What one amount does to the sums of a governor share.
-use Rattle.std.specs.Prelude.{◌≡◌, ℕ, zero, suc, ◌+◌, ◌-◌, ◌<◌, ◌≤◌, Bool, true, false, ◌&&◌, List, [], ◌∷◌, length, pos, ◌-ℤ◌, int_le, nat_le, refl}
-use Rattle.std.proofs.Common.{arith, sym, ◌∙◌, subst}
+use Rattle.std.specs.Prelude.{◌≡◌, ℕ, zero, suc, ◌+◌, ◌-◌, ◌<◌, ◌≤◌, Bool, true, ◌&&◌, List, [], ◌∷◌, length, pos, ◌-ℤ◌, int_le, nat_le, refl}
+use Rattle.std.proofs.Common.{arith, sym, ap, ◌∙◌, subst}
+use Rattle.std.proofs.Math.Bool.{and_comm}
 use Rattle.std.proofs.lemmas.Int.{ints}
 use Rattle.std.proofs.lemmas.Bool.{and_from, and_parts, le-leb, leb-true}
 use Rattle.std.proofs.lemmas.Bool.Decides.{nat_tests}
@@ -68,22 +69,17 @@ lower_moves row t v n l =
 left_is : (a share together held after : ℕ) → after + held ≡ together + a → int_le (pos a) (pos share -ℤ (pos together -ℤ pos held)) ≡ nat_le after share
 left_is a share together held after e = grind (arith, ints, nat_tests)
 
-and_true : (p q : Bool) → q ≡ true → p ≡ (p && q)
-and_true true q e = sym e
-and_true false q e = refl
-
-true_and : (p q : Bool) → p ≡ true → q ≡ (p && q)
-true_and p q e = subst (λ (b : Bool). q ≡ (b && q)) (sym e) refl
-
-pub raise_left : (plant : GovernorShare) (row : Row) (s together held : ℕ) → length row.amounts ≡ 10 → s < 5 → together ≡ raises row → held ≡ amount row s → lowers row ≤ plant.lower → (a : ℕ) → int_le (pos a) (pos plant.raise -ℤ (pos together -ℤ pos held)) ≡ share_allows plant (with_amount row s a)
-raise_left plant row s together held n l e f m a =
+-- what the raise side and the lower side leave to one of their services, each with the other side as it stands
+pub raise_left : (plant : GovernorShare) (row : Row) (s together held : ℕ) → length row.amounts ≡ 10 → s < 5 → together ≡ raises row → held ≡ amount row s → (a : ℕ) → (int_le (pos a) (pos plant.raise -ℤ (pos together -ℤ pos held)) && nat_le (lowers row) plant.lower) ≡ share_allows plant (with_amount row s a)
+raise_left plant row s together held n l e f a =
     let h = raise_moves row s a n l in
-    left_is a plant.raise together held (raises (with_amount row s a)) (omega (arith, h.0))
-    ∙ and_true _ _ (le-leb (lowers (with_amount row s a)) plant.lower (omega (arith, h.1)))
+    ap (λ (b : Bool). b && nat_le (lowers row) plant.lower) (left_is a plant.raise together held (raises (with_amount row s a)) (omega (arith, h.0)))
+    ∙ ap (λ (k : ℕ). nat_le (raises (with_amount row s a)) plant.raise && nat_le k plant.lower) (sym h.1)
 
-pub lower_left : (plant : GovernorShare) (row : Row) (s together held : ℕ) → length row.amounts ≡ 10 → 5 ≤ s → s ≤ 9 → together ≡ lowers row → held ≡ amount row s → raises row ≤ plant.raise → (a : ℕ) → int_le (pos a) (pos plant.lower -ℤ (pos together -ℤ pos held)) ≡ share_allows plant (with_amount row s a)
-lower_left plant row s together held n k l e f m a =
+pub lower_left : (plant : GovernorShare) (row : Row) (s together held : ℕ) → length row.amounts ≡ 10 → 5 ≤ s → s ≤ 9 → together ≡ lowers row → held ≡ amount row s → (a : ℕ) → (int_le (pos a) (pos plant.lower -ℤ (pos together -ℤ pos held)) && nat_le (raises row) plant.raise) ≡ share_allows plant (with_amount row s a)
+lower_left plant row s together held n k l e f a =
     let t : (s - 5) + 5 ≡ s = omega arith in
     let h = subst (λ (x : ℕ). (lowers (with_amount row x a) + amount row x ≡ lowers row + a) × (raises (with_amount row x a) ≡ raises row)) t (lower_moves row (s - 5) a n (omega arith)) in
-    left_is a plant.lower together held (lowers (with_amount row s a)) (omega (arith, h.0))
-    ∙ true_and _ _ (le-leb (raises (with_amount row s a)) plant.raise (omega (arith, h.1)))
+    and_comm (int_le (pos a) (pos plant.lower -ℤ (pos together -ℤ pos held))) (nat_le (raises row) plant.raise)
+    ∙ ap (λ (b : Bool). nat_le (raises row) plant.raise && b) (left_is a plant.lower together held (lowers (with_amount row s a)) (omega (arith, h.0)))
+    ∙ ap (λ (k : ℕ). nat_le k plant.raise && nat_le (lowers (with_amount row s a)) plant.lower) (sym h.1)

@@ -3,7 +3,7 @@ ghost use Rattle.std.specs.Prelude.{true, refl};
 
 use limits::{PlantLimit, Row};
 
-#[derive(Clone, Copy)]
+#[derive(Debug, Clone, Copy, PartialEq, Eq)]
 pub struct Bare;
 
 impl PlantLimit for Bare {

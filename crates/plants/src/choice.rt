@@ -14,7 +14,7 @@ use crate::connection_cap::ConnectionCap;
 use crate::governor_share::GovernorShare;
 use limits::{PlantLimit, Row};
 
-#[derive(Clone, Copy)]
+#[derive(Debug, Clone, Copy, PartialEq, Eq)]
 pub enum PlantChoice {
     Bare(Bare),
     Cap(ConnectionCap),
@@ -35,6 +35,7 @@ impl PlantLimit for PlantChoice {
           and_from _ _ (cap_lowering both.0 row s a l parts.0) (share_lowering both.1 row s a l parts.1)
     ] };
 
+    // A `match` for each question: what they share could only be handed out as a `dyn`, which the rules forbid.
     fn allows(&self, row: &Row) -> bool {
         match self {
             PlantChoice::Bare(bare) => bare.allows(row),

@@ -10,7 +10,7 @@ use fcas::Kind;
 use limits::{PlantLimit, Row};
 
 // The caps of units 0 to 23, in kilowatts.
-#[derive(Clone, Copy)]
+#[derive(Debug, Clone, Copy, PartialEq, Eq)]
 pub struct ConnectionCap {
     pub caps: [u32; 24],
 }
@@ -36,7 +36,7 @@ fn flow(row: &Row) -> i64
     let delayed = delayed(row.kind);
     let amounts = &row.amounts;
     i64::from(row.energy)
-        + (i64::from(amounts[upward as usize]) + i64::from(amounts[delayed as usize]))
+        + (i64::from(amounts[usize::from(upward)]) + i64::from(amounts[usize::from(delayed)]))
 }
 
 // Whether a service adds to the flow.
@@ -50,11 +50,7 @@ impl ConnectionCap {
     fn cap(&self, unit: u32) -> u32
         ensures { result ≡ cap_of_unit self.now unit }
     {
-        if unit < 24 {
-            self.caps[unit as usize]
-        } else {
-            0
-        }
+        self.caps.get(unit as usize).copied().unwrap_or(0)
     }
 
     // What the cap leaves to a service that holds so much of the flow.
@@ -75,14 +71,11 @@ impl PlantLimit for ConnectionCap {
     }
 
     fn most(&self, row: &Row, service: u8) -> Option<u32> {
-        if service > 9 {
-            return None;
-        }
-        let amount = row.amounts[service as usize];
+        let amount = row.amounts.get(usize::from(service)).copied()?;
         if adds(row, service) {
-            greatest(self.room(row, amount), true, service)
+            greatest(self.room(row, amount))
         } else {
-            greatest(self.room(row, 0), false, service)
+            self.allows(row).then_some(4_000_000)
         }
     }
 }

@@ -51,7 +51,7 @@ impl Refusal {
             Refusal::PassUnknown => 28,
             Refusal::NoEnergy => 29,
             Refusal::NotLive => 30,
-            Refusal::LimitBroken { ground: _, by: _ } => 31,
+            Refusal::LimitBroken { .. } => 31,
         }
     }
 }

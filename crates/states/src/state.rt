@@ -4,7 +4,7 @@ ghost use Rattle.states.specs.State.{energy_of, stepped};
 
 use crate::refusal::Refusal;
 
-#[derive(Clone, Copy)]
+#[derive(Debug, Clone, Copy, PartialEq, Eq)]
 pub enum State {
     Vacant,
     Idle,
@@ -12,7 +12,7 @@ pub enum State {
     OpenWithEnergy { serial: u64, energy: u32 },
 }
 
-#[derive(Clone, Copy)]
+#[derive(Debug, Clone, Copy, PartialEq, Eq)]
 pub enum Event {
     Enrol,
     Retire,
@@ -31,7 +31,7 @@ impl State {
         ensures { result ≡ energy_of self }
     {
         match self {
-            State::OpenWithEnergy { serial: _, energy } => energy,
+            State::OpenWithEnergy { energy, .. } => energy,
             _ => 0,
         }
     }
@@ -44,26 +44,18 @@ impl State {
             (State::Idle, Event::Retire) => Ok(State::Vacant),
             (State::Idle, Event::Rebid) => Ok(State::Idle),
             (State::Idle, Event::Open { serial }) => Ok(State::Open { serial }),
+            // Two arms: an or-pattern that binds the serial of either gets no generated proof.
             (State::Open { serial }, Event::Energy { energy }) => {
                 Ok(State::OpenWithEnergy { serial, energy })
             }
-            (State::OpenWithEnergy { serial, energy: _ }, Event::Energy { energy }) => {
+            (State::OpenWithEnergy { serial, .. }, Event::Energy { energy }) => {
                 Ok(State::OpenWithEnergy { serial, energy })
             }
-            (State::OpenWithEnergy { serial, energy }, Event::AtEnergy) => {
-                Ok(State::OpenWithEnergy { serial, energy })
-            }
-            (State::Open { serial: _ }, Event::End) => Ok(State::Idle),
-            (
-                State::OpenWithEnergy {
-                    serial: _,
-                    energy: _,
-                },
-                Event::End,
-            ) => Ok(State::Idle),
+            (State::OpenWithEnergy { .. }, Event::AtEnergy) => Ok(self),
+            (State::Open { .. } | State::OpenWithEnergy { .. }, Event::End) => Ok(State::Idle),
             (_, Event::Enrol) => Err(Refusal::AlreadyEnrolled),
-            (State::Open { serial: _ }, Event::AtEnergy) => Err(Refusal::NoEnergy),
-            (_, Event::Energy { energy: _ } | Event::AtEnergy) => Err(Refusal::PassUnknown),
+            (State::Open { .. }, Event::AtEnergy) => Err(Refusal::NoEnergy),
+            (_, Event::Energy { .. } | Event::AtEnergy) => Err(Refusal::PassUnknown),
             (State::Vacant, _) => Err(Refusal::NotEnrolled),
             (State::Idle, Event::End) => Err(Refusal::NoInterval),
             (_, _) => Err(Refusal::IntervalOpen),

@@ -3,22 +3,22 @@ use Rattle.numerals.specs.Numerals.{spelled_from}
 use Rattle.numerals.proofs.Spelled.{digit, fits, no_digit, overflow, whole_is}
 use Rattle.numerals.proofs.reading.whole.Goals as goal
 
-pub returns-then-not-is_digit : goal.returns-then-not-is_digit
-returns-then-not-is_digit c = record {
-  value = no_digit c.loop-byte.number c.loop-byte.byte-index c.args.word.now c.loop-byte-test.true c.if-not-is_digit.ensures c.loop-byte.invariant.0;
+pub returns-then-not-is_ascii_digit : goal.returns-then-not-is_ascii_digit
+returns-then-not-is_ascii_digit c = record {
+  value = no_digit c.loop-byte.number c.loop-byte.byte-index c.args.word.now c.loop-byte-test.true c.if-not-is_ascii_digit.ensures.value c.loop-byte.invariant.0;
   kept = refl;
 }
 
 pub returns-in_err-number : goal.returns-in_err-number
 returns-in_err-number c = record {
-  value = c.from_residual.ensures ∙ overflow c.loop-byte.number c.loop-byte.byte-index c.args.word.now c.loop-byte-test.true c.if-not-is_digit.ensures c.loop-byte.invariant.0 c.in_err-number.ensures;
+  value = c.from_residual.ensures ∙ overflow c.loop-byte.number c.loop-byte.byte-index c.args.word.now c.loop-byte-test.true c.if-not-is_ascii_digit.ensures.value c.loop-byte.invariant.0 c.in_err-number.ensures;
   kept = refl;
 }
 
 pub loop-byte-preserved : goal.loop-byte-preserved
 loop-byte-preserved c =
     let f = fits _ c.in_ok-number.number c.in_ok-number.ensures in
-    (digit c.loop-byte.number c.loop-byte.byte-index c.args.word.now c.loop-byte-test.true c.if-not-is_digit.ensures c.loop-byte.invariant.0 ∙ ap (λ (k : ℕ). spelled_from k (drop (c.loop-byte.byte-index + 1) c.args.word.now)) (sym f.0), f.1)
+    (digit c.loop-byte.number c.loop-byte.byte-index c.args.word.now c.loop-byte-test.true c.if-not-is_ascii_digit.ensures.value c.loop-byte.invariant.0 ∙ ap (λ (k : ℕ). spelled_from k (drop (c.loop-byte.byte-index + 1) c.args.word.now)) (sym f.0), f.1)
 
 pub returns : goal.returns
 returns c = record {

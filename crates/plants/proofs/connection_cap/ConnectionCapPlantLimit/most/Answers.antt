@@ -1,33 +1,22 @@
-use Rattle.std.proofs.Common.{◌≡◌, ℕ, ◌<◌, Bool, length, ℤ, pos, Option, sym, refl, ap, ◌∙◌, arith, w64, SFits, to_z, of_z, rules}
-use lib.Signed.{le_z}
-use Rattle.std.proofs.lemmas.Int.{to_z-of_z}
-use Rattle.limits.specs.Plant.{Greatest}
-use Rattle.plants.proofs.Answered.{greatest_same}
-use Rattle.plants.specs.Flows.{room_adds, room_else}
+use Rattle.std.proofs.Common.{◌≡◌, length, ◌+ℤ◌, ◌-ℤ◌, pos, ℕ, sym, ap, ◌∙◌, arith, rules}
+use Rattle.limits.specs.Row.{with_amount}
+use Rattle.plants.specs.ConnectionCap.{cap_allows, cap_of_unit, flow}
+use Rattle.plants.proofs.Answered.{element, greatest_of_room, greatest_or_none}
+use Rattle.plants.specs.Flows.{flow_beside, room_adds}
 use Rattle.plants.proofs.connection_cap.ConnectionCapPlantLimit.most.Goals as goal
 
--- an answer for a room that went through 64 bits
-known : (f : ℕ → ℕ) (q : ℕ → Bool) (s : ℕ) (found : Option ℕ) (room z : ℤ) → SFits w64 room → room ≡ z → ((a : ℕ) → le_z (pos (f a)) z ≡ q a) → Greatest (λ a. le_z (pos (f a)) (to_z w64 (of_z w64 room))) s found → Greatest q s found
-known f q s found room z fits e same h = greatest_same (λ a. le_z (pos (f a)) (to_z w64 (of_z w64 room))) q (λ a. ap (λ (x : ℤ). le_z (pos (f a)) x) (to_z-of_z w64 room fits ∙ e) ∙ same a) s found h
-
-pub returns-then-adds : goal.returns-then-adds
-returns-then-adds c =
+pub returns-then-adds-clause-value : goal.returns-then-adds-clause-value
+returns-then-adds-clause-value c =
     let ten : length c.args.row.now.amounts ≡ 10 = search rules in
-    let within : c.args.service < length c.args.row.now.amounts = omega arith in
-    record {
-      value = known (λ a. a) _ c.args.service c.greatest.result c.room.result _ (record { sfits = c.room.type_inv }) c.room.ensures
-          (room_adds c.args.self.now c.args.row.now c.args.service within (sym c.if-adds.ensures)) c.greatest.ensures;
-      plant_kept = refl;
-      row_kept = refl;
-    }
+    let found = element c.args.row.now.amounts c.args.service c.from.result c.in_ok-amount.amount c.get.result c.get.ensures.lookup c.from.ensures (sym c.in_ok-amount.ensures) in
+    greatest_of_room _ c.args.service c.greatest.result c.room.result _ (record { sfits = c.room.type_inv })
+    (c.room.ensures ∙ ap (λ (n : ℕ). (pos (cap_of_unit c.args.self.now c.args.row.now.unit) -ℤ flow c.args.row.now) +ℤ pos n) found.1)
+    (room_adds c.args.self.now c.args.row.now c.args.service found.0 (sym c.if-adds.ensures)) (c.greatest.ensures c.args.service (omega (arith, found.0, ten)))
 
-pub returns-else-adds : goal.returns-else-adds
-returns-else-adds c =
+pub returns-else-adds-clause-value : goal.returns-else-adds-clause-value
+returns-else-adds-clause-value c =
     let ten : length c.args.row.now.amounts ≡ 10 = search rules in
-    let within : c.args.service < length c.args.row.now.amounts = omega arith in
-    record {
-      value = known (λ _. 0) _ c.args.service c.greatest-else-adds.result c.room-else-adds.result _ (record { sfits = c.room-else-adds.type_inv }) c.room-else-adds.ensures
-          (room_else c.args.self.now c.args.row.now c.args.service within (sym c.if-adds.ensures)) c.greatest-else-adds.ensures;
-      plant_kept = refl;
-      row_kept = refl;
-    }
+    let found = element c.args.row.now.amounts c.args.service c.from.result c.in_ok-amount.amount c.get.result c.get.ensures.lookup c.from.ensures (sym c.in_ok-amount.ensures) in
+    rw (c.then_some.ensures, c.allows.ensures.value)
+    (greatest_or_none (λ a. cap_allows c.args.self.now (with_amount c.args.row.now c.args.service a)) (cap_allows c.args.self.now c.args.row.now) c.args.service (omega (arith, found.0, ten))
+    (flow_beside c.args.self.now c.args.row.now c.args.service found.0 (sym c.if-adds.ensures)))

@@ -1,17 +1,21 @@
-use Rattle.std.proofs.Common.{◌≡◌, ◌≤◌, length, refl, arith, rules}
-use Rattle.plants.specs.GovernorShare.{lowers, raises}
-use Rattle.plants.proofs.Answered.{greatest_same}
+use Rattle.std.proofs.Common.{◌≡◌, ◌≤◌, ◌&&◌, length, nat_le, int_le, pos, ◌-ℤ◌, sym, arith, rules}
+use Rattle.limits.specs.Row.{with_amount}
+use Rattle.plants.specs.GovernorShare.{share_allows}
+use Rattle.plants.proofs.Answered.{element, greatest_same}
 use Rattle.plants.specs.Shares.{lower_left, raise_left}
 use Rattle.plants.proofs.governor_share.GovernorSharePlantLimit.most.Goals as goal
 
-pub returns-else-lowers-from : goal.returns-else-lowers-from
-returns-else-lowers-from c =
+pub returns-then-service-lt5-clause-value : goal.returns-then-service-lt5-clause-value
+returns-then-service-lt5-clause-value c =
     let ten : length c.args.row.now.amounts ≡ 10 = search rules in
-    let within : lowers c.args.row.now ≤ c.args.self.now.lower = omega (arith, c.lowers.ensures.value, c.from.ensures) in
-    record { value = greatest_same _ _ (raise_left c.args.self.now c.args.row.now c.args.service c.raises.result _ ten c.if-service-lt5.true c.raises.ensures.value refl within) c.args.service c.share_left.result c.share_left.ensures; plant_kept = refl; row_kept = refl }
+    let found = element c.args.row.now.amounts c.args.service c.from.result c.in_ok-amount.amount c.get.result c.get.ensures.lookup c.from.ensures (sym c.in_ok-amount.ensures) in
+    let h = raise_left c.args.self.now c.args.row.now c.args.service c.sides.result.0.held c.in_ok-amount.amount ten c.if-service-lt5.true c.sides.ensures.raises found.1 in
+    greatest_same (λ a. int_le (pos a) (pos c.sides.result.0.most -ℤ (pos c.sides.result.0.held -ℤ pos c.in_ok-amount.amount)) && nat_le c.sides.result.1.held c.sides.result.1.most) (λ a. share_allows c.args.self.now (with_amount c.args.row.now c.args.service a)) (λ a. rw (c.sides.ensures.raise, c.sides.ensures.lower, c.sides.ensures.lowers) (h a)) c.args.service c.greatest_beside.result (c.greatest_beside.ensures c.args.service (omega arith))
 
-pub returns-else-raises-from : goal.returns-else-raises-from
-returns-else-raises-from c =
+pub returns-else-service-lt5-clause-value : goal.returns-else-service-lt5-clause-value
+returns-else-service-lt5-clause-value c =
     let ten : length c.args.row.now.amounts ≡ 10 = search rules in
-    let within : raises c.args.row.now ≤ c.args.self.now.raise = omega (arith, c.raises-else-service-lt5.ensures.value, c.from-else-service-lt5.ensures) in
-    record { value = greatest_same _ _ (lower_left c.args.self.now c.args.row.now c.args.service c.lowers-else-service-lt5.result _ ten c.if-service-lt5.false c.if-service-gt9.false c.lowers-else-service-lt5.ensures.value refl within) c.args.service c.share_left-else-service-lt5.result c.share_left-else-service-lt5.ensures; plant_kept = refl; row_kept = refl }
+    let found = element c.args.row.now.amounts c.args.service c.from.result c.in_ok-amount.amount c.get.result c.get.ensures.lookup c.from.ensures (sym c.in_ok-amount.ensures) in
+    let within : c.args.service ≤ 9 = omega (arith, found.0) in
+    let h = lower_left c.args.self.now c.args.row.now c.args.service c.sides.result.1.held c.in_ok-amount.amount ten c.if-service-lt5.false within c.sides.ensures.lowers found.1 in
+    greatest_same (λ a. int_le (pos a) (pos c.sides.result.1.most -ℤ (pos c.sides.result.1.held -ℤ pos c.in_ok-amount.amount)) && nat_le c.sides.result.0.held c.sides.result.0.most) (λ a. share_allows c.args.self.now (with_amount c.args.row.now c.args.service a)) (λ a. rw (c.sides.ensures.raise, c.sides.ensures.lower, c.sides.ensures.raises) (h a)) c.args.service c.greatest_beside-else-service-lt5.result (c.greatest_beside-else-service-lt5.ensures c.args.service within)
