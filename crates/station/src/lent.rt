@@ -1,5 +1,5 @@
 // What each call does to the row that it is lent.
-ghost use Rattle.std.specs.Prelude.{◌≡◌, ℕ, ◌<◌, ◌≤◌, true, false, not, [], ◌∷◌, ◌++◌, is_some, Some, None, MatchOption, OnErr, ◌==◌, slice_index_or, slice_set};
+ghost use Rattle.std.specs.Prelude.{◌≡◌, ℕ, ◌<◌, ◌≤◌, true, false, not, [], ◌∷◌, ◌++◌, is_some, Some, None, MatchResult, OnErr, ◌==◌, slice_index_or, slice_set};
 ghost use Rattle.std.specs.Option.{option_map};
 ghost use Rattle.limits.specs.Figure.{no_figure};
 ghost use Rattle.limits.specs.Limit.{Borne, breaks, offer_at};
@@ -16,17 +16,11 @@ use fcas::{CheckedBid, CheckedReading, Kind, Service, Trapezium};
 use limits::{CheckedRow, CheckedTerms, Figure, PlantLimit, Row, figures, first_broken, probe};
 use states::{Event, Refusal, State};
 
-// A bid is put in its place.
-fn place_bid(bids: &mut [Option<CheckedBid>; 10], service: Service, bid: Option<CheckedBid>)
-    ensures { bids.new ≡ slice_set bids.old service.number bid }
+// A bid or an amount is put in the place of its service.
+fn place<T: Copy>(places: &mut [T; 10], service: Service, value: T)
+    ensures { places.new ≡ slice_set places.old service.number value }
 {
-    bids[service.number as usize] = bid;
-}
-
-fn place_amount(amounts: &mut [u32; 10], service: Service, amount: u32)
-    ensures { amounts.new ≡ slice_set amounts.old service.number amount }
-{
-    amounts[service.number as usize] = amount;
+    places[service.number as usize] = value;
 }
 
 // The last serial is never given.
@@ -57,18 +51,14 @@ impl UnitRow {
         ensures { Lent (idle_faults (entry_of self.old)) (option_map (with_bid service.number (Some bid.bid)) (entry_of self.old)) self.old self.new result }
     {
         self.state = self.state.step(Event::Rebid)?;
-        place_bid(&mut self.bids, service, Some(bid));
+        place(&mut self.bids, service, Some(bid));
         Ok(())
     }
 
     fn has_bid(&self, service: Service) -> bool
         ensures { result ≡ is_some (slice_index_or (held_bids self.now.bids) service.number None) }
     {
-        let bid = &self.bids[service.number as usize];
-        match bid {
-            Some(_) => true,
-            None => false,
-        }
+        self.bids[service.number as usize].is_some()
     }
 
     pub(crate) fn withdraw(&mut self, service: Service) -> Result<(), Refusal>
@@ -79,7 +69,7 @@ impl UnitRow {
             return Err(Refusal::NoBid);
         }
         self.state = state;
-        place_bid(&mut self.bids, service, None);
+        place(&mut self.bids, service, None);
         Ok(())
     }
 
@@ -131,13 +121,13 @@ impl UnitRow {
         Ok(self.at(unit, self.state.energy()))
     }
 
-    // The refusal by the first limit that a row of the unit breaks.
-    fn limit_refusal<P: PlantLimit>(&self, row: &CheckedRow, plant: &P) -> Option<Refusal>
-        ensures { MatchOption result (Borne (breaks (P.PlantLimit.allowed plant.now) self.now.terms.terms row.now.row)) (λ refusal. Named (breaks (P.PlantLimit.allowed plant.now) self.now.terms.terms row.now.row) self.now.kind (told refusal)) }
+    // A row of the unit is refused by the first limit that it breaks.
+    fn check_limits<P: PlantLimit>(&self, row: &CheckedRow, plant: &P) -> Result<(), Refusal>
+        ensures { MatchResult result (λ _. Borne (breaks (P.PlantLimit.allowed plant.now) self.now.terms.terms row.now.row)) (λ refusal. Named (breaks (P.PlantLimit.allowed plant.now) self.now.terms.terms row.now.row) self.now.kind (told refusal)) }
     {
         match first_broken(&self.terms, row, plant) {
-            Some(limit) => Some(Refusal::broken(limit, self.kind)),
-            None => None,
+            Some(limit) => Err(Refusal::broken(limit, self.kind)),
+            None => Ok(()),
         }
     }
 
@@ -152,9 +142,7 @@ impl UnitRow {
     {
         let state = self.state.step(Event::Energy { energy })?;
         let row = self.at(unit, energy);
-        if let Some(refusal) = self.limit_refusal(&row, plant) {
-            return Err(refusal);
-        }
+        self.check_limits(&row, plant)?;
         self.state = state;
         Ok(())
     }
@@ -173,10 +161,8 @@ impl UnitRow {
         if !self.is_live(service) {
             return Err(Refusal::NotLive);
         }
-        if let Some(refusal) = self.limit_refusal(&row, plant) {
-            return Err(refusal);
-        }
-        place_amount(&mut self.amounts, service, amount);
+        self.check_limits(&row, plant)?;
+        place(&mut self.amounts, service, amount);
         Ok(())
     }
 
@@ -195,10 +181,7 @@ impl UnitRow {
         ensures { BearsRow (P.PlantLimit.allowed plant.now) unit (entry_of self.now) → Asked (held_faults (entry_of self.now)) (λ table. (service : ℕ) → service < 10 → FigureIn (P.PlantLimit.allowed plant.now) unit service (entry_of self.now) (slice_index_or table service no_figure)) result }
     {
         let row = self.held(unit)?;
-        match figures(&self.terms, &row, plant) {
-            Some(table) => Ok(table),
-            None => Err(Refusal::NoEnergy),
-        }
+        figures(&self.terms, &row, plant).ok_or(Refusal::NoEnergy)
     }
 
     // The interval ends with its ten figures.
@@ -220,12 +203,10 @@ impl UnitRow {
         ensures { result ≡ is_under serial (entry_of self.now) }
     {
         match self.state {
-            State::Open { serial: held } => held == serial,
-            State::OpenWithEnergy {
-                serial: held,
-                energy: _,
-            } => held == serial,
-            _ => false,
+            State::Open { serial: held } | State::OpenWithEnergy { serial: held, .. } => {
+                held == serial
+            }
+            State::Vacant | State::Idle => false,
         }
     }
 
@@ -245,11 +226,8 @@ impl UnitRow {
     pub(crate) fn trapezium(&self, service: Service) -> Option<Trapezium>
         ensures { is_open (entry_of self.now) ≡ true → result ≡ trapezium_in service.number (entry_of self.now) }
     {
-        let bid = &self.bids[service.number as usize];
-        match bid {
-            Some(bid) => Some(Trapezium::new(self.kind, service, bid, &self.reading)),
-            None => None,
-        }
+        let bid = self.bids[service.number as usize];
+        bid.map(|bid| Trapezium::new(self.kind, service, &bid, &self.reading))
     }
 }
 
@@ -258,6 +236,6 @@ fn with_amount(row: CheckedRow, service: Service, amount: u32) -> CheckedRow
     ensures { result.row ≡ with_amount row.row service.number amount }
 {
     let mut row = row.row;
-    row.amounts[service.number as usize] = amount;
+    place(&mut row.amounts, service, amount);
     CheckedRow { row }
 }
