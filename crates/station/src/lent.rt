@@ -11,6 +11,7 @@ ghost use Rattle.station.specs.Lent.{Asked, held_faults, Lent, Tried};
 ghost use Rattle.states.specs.State.{energy_of};
 ghost use Rattle.station.specs.View.{entry_of, plant_row};
 
+use crate::power::Power;
 use crate::row::UnitRow;
 use fcas::{CheckedBid, CheckedReading, Kind, Service, Trapezium};
 use limits::{CheckedRow, CheckedTerms, Figure, PlantLimit, Row, figures, first_broken, probe};
@@ -98,16 +99,15 @@ impl UnitRow {
     }
 
     // The row at an energy, as a plant limit sees it.
-    fn at(&self, unit: u32, energy: u32) -> CheckedRow
-        requires { energy ≤ 4000000 }
-        ensures { result.row ≡ plant_row unit energy self.now }
+    fn at(&self, unit: u32, energy: Power) -> CheckedRow
+        ensures { result.row ≡ plant_row unit energy.kilowatts self.now }
     {
         let amounts = self.amounts;
         CheckedRow {
             row: Row {
                 unit,
                 kind: self.kind,
-                energy: energy as i32,
+                energy: energy.kilowatts as i32,
                 amounts,
             },
         }
@@ -118,7 +118,10 @@ impl UnitRow {
         ensures { Asked (held_faults (entry_of self.now)) (λ row. row.row ≡ plant_row unit (energy_of self.now.state) self.now) result }
     {
         self.state.step(Event::AtEnergy)?;
-        Ok(self.at(unit, self.state.energy()))
+        let energy = Power {
+            kilowatts: self.state.energy(),
+        };
+        Ok(self.at(unit, energy))
     }
 
     // A row of the unit is refused by the first limit that it breaks.
@@ -134,13 +137,14 @@ impl UnitRow {
     pub(crate) fn energy<P: PlantLimit>(
         &mut self,
         unit: u32,
-        energy: u32,
+        energy: Power,
         plant: &P,
     ) -> Result<(), Refusal>
-        requires { energy ≤ 4000000 }
-        ensures { Tried ((28, not (is_open (entry_of self.old))) ∷ []) (broken_at (P.PlantLimit.allowed plant.now) unit energy (entry_of self.old)) (kind_in (entry_of self.old)) (option_map (on_interval (with_energy energy)) (entry_of self.old)) self.old self.new result }
+        ensures { Tried ((28, not (is_open (entry_of self.old))) ∷ []) (broken_at (P.PlantLimit.allowed plant.now) unit energy.kilowatts (entry_of self.old)) (kind_in (entry_of self.old)) (option_map (on_interval (with_energy energy.kilowatts)) (entry_of self.old)) self.old self.new result }
     {
-        let state = self.state.step(Event::Energy { energy })?;
+        let state = self.state.step(Event::Energy {
+            energy: energy.kilowatts,
+        })?;
         let row = self.at(unit, energy);
         self.check_limits(&row, plant)?;
         self.state = state;
@@ -151,18 +155,17 @@ impl UnitRow {
         &mut self,
         unit: u32,
         service: Service,
-        amount: u32,
+        amount: Power,
         plant: &P,
     ) -> Result<(), Refusal>
-        requires { amount ≤ 4000000 }
-        ensures { Tried (held_faults (entry_of self.old) ++ ((30, not (is_live service.number (entry_of self.old))) ∷ [])) (broken_with (P.PlantLimit.allowed plant.now) unit service.number amount (entry_of self.old)) (kind_in (entry_of self.old)) (option_map (on_interval (with_amount_of service.number amount)) (entry_of self.old)) self.old self.new result }
+        ensures { Tried (held_faults (entry_of self.old) ++ ((30, not (is_live service.number (entry_of self.old))) ∷ [])) (broken_with (P.PlantLimit.allowed plant.now) unit service.number amount.kilowatts (entry_of self.old)) (kind_in (entry_of self.old)) (option_map (on_interval (with_amount_of service.number amount.kilowatts)) (entry_of self.old)) self.old self.new result }
     {
         let row = with_amount(self.held(unit)?, service, amount);
         if !self.is_live(service) {
             return Err(Refusal::NotLive);
         }
         self.check_limits(&row, plant)?;
-        place(&mut self.amounts, service, amount);
+        place(&mut self.amounts, service, amount.kilowatts);
         Ok(())
     }
 
@@ -214,11 +217,10 @@ impl UnitRow {
         &self,
         unit: u32,
         service: Service,
-        energy: u32,
+        energy: Power,
         plant: &P,
     ) -> Option<Figure>
-        requires { energy ≤ 4000000 }
-        ensures { is_open (entry_of self.now) ≡ true → ProbedIn (P.PlantLimit.allowed plant.now) unit service.number energy (entry_of self.now) result }
+        ensures { is_open (entry_of self.now) ≡ true → ProbedIn (P.PlantLimit.allowed plant.now) unit service.number energy.kilowatts (entry_of self.now) result }
     {
         probe(&self.terms, &self.at(unit, energy), plant, service)
     }
@@ -231,11 +233,10 @@ impl UnitRow {
     }
 }
 
-fn with_amount(row: CheckedRow, service: Service, amount: u32) -> CheckedRow
-    requires { amount ≤ 4000000 }
-    ensures { result.row ≡ with_amount row.row service.number amount }
+fn with_amount(row: CheckedRow, service: Service, amount: Power) -> CheckedRow
+    ensures { result.row ≡ with_amount row.row service.number amount.kilowatts }
 {
     let mut row = row.row;
-    place(&mut row.amounts, service, amount);
+    place(&mut row.amounts, service, amount.kilowatts);
     CheckedRow { row }
 }
