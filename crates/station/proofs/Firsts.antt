@@ -24,6 +24,11 @@ pub first_stop : (xs ys : List Finding) (n : ℕ) → first_of xs ≡ Some n →
 first_stop [] ys n e = let clash : ◌≡◌ {A = ℕ} 0 1 = cc in absurd (omega arith)
 first_stop (x ∷ xs) ys n e = stop x.1 x.0 n (first_of xs) (first_of (xs ++ ys)) e (first_stop xs ys n)
 
+-- what `?` hands on is the refusal that it got
+pub handed_on : {X : Type 0} (r : Result X Refusal) (refusal : Refusal) → IsErrAnd r (λ e. e ≡ refusal) → r ≡ Err refusal
+handed_on (Ok x) refusal e = elim e [ ]
+handed_on {X} (Err y) refusal e = ap {B = Result X Refusal} Err e
+
 -- what `?` makes of a refusal with this number
 pub refuses_by : {X : Type 0} (faults : List Finding) (writes : Option Entry) (row : UnitRow) (r : Result X Refusal) (n : ℕ) → IsErrAnd r (λ refusal. told refusal ≡ plain n) → first_of faults ≡ Some n → Lent faults writes row row r
 refuses_by faults writes row (Ok x) n said first = elim said [ ]

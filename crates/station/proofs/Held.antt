@@ -1,5 +1,5 @@
 -- What an open row holds, and what the calls of an interval make of it.
-use Rattle.std.proofs.Common.{◌≡◌, ℕ, Bool, true, false, cond, not, List, [], ◌∷◌, ◌++◌, get_or, set, is_some, Some, None, Ok, Err, Option, Result, unwrap_or, sym, refl, ap, ◌∙◌, subst, arith}
+use Rattle.std.proofs.Common.{◌≡◌, ℕ, ◌<◌, Bool, true, false, cond, not, List, [], ◌∷◌, ◌++◌, get_or, set, is_some, Some, None, Ok, Err, Option, Result, ok_or, unwrap_or, sym, refl, ap, ◌∙◌, subst, arith}
 use base.Stored.{Coded-set}
 use mathlib.Core.Logic.{∥∥₁_elim}
 use Rattle.std.specs.Option.{option_map}
@@ -9,7 +9,7 @@ use Rattle.fcas.specs.declared.bid.Bid.{Bid}
 use Rattle.fcas.specs.declared.kind.Kind.{Kind}
 use Rattle.fcas.specs.declared.reading.Measured.{Measured}
 use Rattle.fcas.specs.declared.trapezium.Trapezium.{Trapezium}
-use Rattle.limits.specs.Figure.{FigureAt, Probed}
+use Rattle.limits.specs.Figure.{AllFigures, FigureAt, no_figure, Probed}
 use Rattle.limits.specs.Limit.{Borne, breaks, offer_at}
 use Rattle.limits.specs.Row.{with_amount}
 use Rattle.limits.specs.Terms.{held_bids, terms_of}
@@ -18,12 +18,12 @@ use Rattle.limits.specs.declared.figure.Figure.{Figure}
 use Rattle.limits.specs.declared.row.Row.{Row}
 use Rattle.limits.specs.declared.terms.Terms.{Terms}
 use Rattle.station.specs.Entry.{Entry, Interval, BearsRow, FigureIn, ProbedIn, broken_at, broken_with, held_row, is_live, is_open, kind_in, on_interval, trapezium_in, with_amount_of, with_energy}
-use Rattle.station.specs.Lent.{Declines, Tried, held_faults}
+use Rattle.station.specs.Lent.{Asked, Declines, Tried, held_faults}
 use Rattle.states.specs.Refusal.{Named, plain, told}
 use Rattle.states.specs.State.{energy_of, holds_open, stepped}
 use Rattle.station.specs.View.{entry_in, entry_of, plant_row}
 use Rattle.states.specs.declared.refusal.Refusal.{Refusal}
-use Rattle.states.specs.declared.refusal.Refusal.TheVariants.{NotLive}
+use Rattle.states.specs.declared.refusal.Refusal.TheVariants.{NoEnergy, NotLive}
 use Rattle.station.specs.declared.row.UnitRow.{UnitRow}
 use Rattle.states.specs.declared.state.Event.TheVariants.{Energy}
 use Rattle.states.specs.declared.state.State.{State}
@@ -170,13 +170,18 @@ module _ (allowed : Row → Bool) (row : UnitRow) (unit : ℕ) where
         )
 
     module _ (asked : Row) (is : asked ≡ plant_row unit (energy_of row.state) row) where
-      pub is_borne : BearsRow allowed unit (entry_of row) → Borne (breaks allowed row.terms.terms asked)
+      is_borne : BearsRow allowed unit (entry_of row) → Borne (breaks allowed row.terms.terms asked)
       is_borne bears = subst (λ (t : Terms). Borne (breaks allowed t asked)) (sym fixed) (subst (λ (r : Row). Borne (breaks allowed fixed_terms r)) (sym (is ∙ held_row_lem))
           (subst (BearsRow allowed unit) row_is_open bears (row_held row none).1))
 
-      pub figure_given : (service : ℕ) (given : Figure) → FigureAt allowed row.terms.terms asked service given → FigureIn allowed unit service (entry_of row) given
+      figure_given : (service : ℕ) (given : Figure) → FigureAt allowed row.terms.terms asked service given → FigureIn allowed unit service (entry_of row) given
       figure_given service given f = subst (λ (x : Option Entry). FigureIn allowed unit service x given) (sym row_is_open)
           (subst (λ (r : Row). FigureAt allowed fixed_terms r service given) (is ∙ held_row_lem) (subst (λ (t : Terms). FigureAt allowed t asked service given) fixed f))
+
+      pub figures_given : (table : Option (List Figure)) (r : Result (List Figure) Refusal) → r ≡ ok_or table NoEnergy → AllFigures allowed row.terms.terms asked table → BearsRow allowed unit (entry_of row)
+          → Asked (held_faults (entry_of row)) (λ table. (service : ℕ) → service < 10 → FigureIn allowed unit service (entry_of row) (get_or table service no_figure)) r
+      figures_given None r e all bears = absurd (all (is_borne bears))
+      figures_given (Some table) r e all bears = rw e (none, λ service l. figure_given service (get_or table service no_figure) (all.1 service l))
 
   pub probe_given : (service energy : ℕ) (asked : Row) (given : Option Figure) → asked ≡ plant_row unit energy row → Probed allowed row.terms.terms asked service given → is_open (entry_of row) ≡ true → ProbedIn allowed unit service energy (entry_of row) given
   probe_given service energy asked given is p o =

@@ -4,7 +4,7 @@ use Rattle.std.proofs.lemmas.Bool.{eq-eqb, ne_eqb}
 use Rattle.fcas.specs.Checks.{first_of}
 use Rattle.station.specs.Book.{Book, pass_faults, unit_at}
 use Rattle.station.specs.Entry.{Entry, Interval, is_open, is_under}
-use Rattle.station.specs.View.{book_with, entries_of, entry_of}
+use Rattle.station.specs.View.{entries_of, entry_of}
 use Rattle.station.specs.declared.pass.PassNumbers.{PassNumbers}
 use Rattle.station.specs.declared.row.UnitRow.{UnitRow}
 use Rattle.station.proofs.Turns.{entries_at}
@@ -22,7 +22,7 @@ no_entry (row ∷ rows) (suc i) l = no_entry rows i (omega arith)
 
 module _ (number : ℕ) (rows : List UnitRow) (pass : PassNumbers) where
   abbrev book : Book
-  book = book_with number rows
+  book = record { number = number; next = 0; units = entries_of rows }
 
   abbrev under : Bool
   under = is_under pass.serial (unit_at book pass.unit)

@@ -1,5 +1,5 @@
 -- Rows read as entries.
-use Rattle.std.proofs.Common.{◌≡◌, ℕ, zero, suc, ◌<◌, List, [], ◌∷◌, length, get_or, set, None, Option, refl, ap, arith}
+use Rattle.std.proofs.Common.{◌≡◌, ℕ, zero, suc, ◌<◌, List, [], ◌∷◌, length, get_or, set, is_some, Some, None, Option, refl, ap, arith}
 use Rattle.std.specs.Option.{option_map}
 use Rattle.fcas.specs.declared.bid.Bid.{Bid}
 use Rattle.fcas.specs.declared.bid.CheckedBid.{CheckedBid}
@@ -17,3 +17,7 @@ pub held_at : (bids : List (Option CheckedBid)) (i : ℕ) (d : Option CheckedBid
 held_at [] i d l = absurd (omega arith)
 held_at (x ∷ bids) zero d l = refl
 held_at (x ∷ bids) (suc i) d l = held_at bids i d (omega arith)
+
+pub bare_some : (bid : Option CheckedBid) → is_some (bare bid) ≡ is_some bid
+bare_some None = refl
+bare_some (Some bid) = refl

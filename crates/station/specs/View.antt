@@ -31,10 +31,6 @@ abbrev pub entries_of : List UnitRow → List (Option Entry)
 entries_of [] = []
 entries_of (row ∷ more) = entry_of row ∷ entries_of more
 
--- The book of a number and these rows, as far as a pass is looked up in it.
-abbrev pub book_with : ℕ → List UnitRow → Book
-book_with number rows = record { number = number; next = 0; units = entries_of rows }
-
 -- The numbers of a pass.
 abbrev pub numbers_of : ℕ → ℕ → ℕ → PassNumbers
 numbers_of station unit serial = record { station = station; unit = unit; serial = serial }

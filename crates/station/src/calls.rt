@@ -1,15 +1,16 @@
 // The thirteen calls.
 ghost use Rattle.std.specs.Prelude.{◌≡◌, ◌<◌, ◌≤◌, ◌++◌, length, drop, MatchResult, slice_index_or};
-ghost use Rattle.station.specs.Book.{pass_faults, power_faults, unit_faults};
+ghost use Rattle.station.specs.Book.{pass_faults, unit_faults};
 ghost use Rattle.station.specs.Lent.{Asked};
 ghost use Rattle.station.specs.Turn.{closed_by, closing, done, figured, opened_by, probed_by, scaled, Turn};
-ghost use Rattle.station.specs.View.{book_with, numbers_of};
+ghost use Rattle.station.specs.View.{numbers_of, view_of};
 ghost use Rattle.station.specs.declared.call.Call.TheVariants.{Enrol, Retire, Bid as Bids, Withdraw, Open, Energy, Amount, Figure as Figures, Probe, Trapezium as Scales, Close, Abandon, Lapse};
 
 use crate::pass::{Pass, PassNumbers, Returned};
+use crate::power::Power;
 use crate::row::UnitRow;
 use crate::station::Station;
-use fcas::{Bid, CheckedBid, CheckedReading, Kind, Reading, Refusal as Unfit, Service, Trapezium};
+use fcas::{Bid, CheckedBid, CheckedReading, Kind, Reading, Service, Trapezium};
 use limits::{Figure, PlantLimit};
 use states::Refusal;
 
@@ -20,34 +21,6 @@ fn check_unit(unit: u32) -> Result<(), Refusal>
         return Err(Refusal::UnitUnknown);
     }
     Ok(())
-}
-
-// An energy or an amount is at most 4,000,000 kW.
-fn check_power(power: u32) -> Result<(), Refusal>
-    ensures { Asked (power_faults power) (λ _. power ≤ 4000000) result }
-{
-    if power > 4_000_000 {
-        return Err(Refusal::Unfit(Unfit::PowerTooLarge));
-    }
-    Ok(())
-}
-
-// The unit that is open under a pass.
-fn find(number: u32, rows: &[UnitRow; 24], pass: &Pass) -> Result<u32, Refusal>
-    ensures { Asked (pass_faults (book_with number rows.now) pass.now.numbers) (λ unit. (unit ≡ pass.now.numbers.unit) × (unit < length rows.now)) result }
-{
-    let numbers = pass.numbers;
-    if numbers.station != u64::from(number) {
-        return Err(Refusal::PassUnknown);
-    }
-    if numbers.unit > 23 {
-        return Err(Refusal::PassUnknown);
-    }
-    let row = &rows[numbers.unit as usize];
-    if !row.is_under(numbers.serial) {
-        return Err(Refusal::PassUnknown);
-    }
-    Ok(numbers.unit as u32)
 }
 
 fn row_of(rows: &[UnitRow; 24], unit: u32) -> &UnitRow
@@ -80,6 +53,24 @@ fn fill(table: &mut [Figure], figures: &[Figure; 10])
 }
 
 impl<P: PlantLimit> Station<P> {
+    // The unit that is open under a pass.
+    fn find(&self, pass: &Pass) -> Result<u32, Refusal>
+        ensures { Asked (pass_faults (view_of self.now) pass.now.numbers) (λ unit. (unit ≡ pass.now.numbers.unit) × (unit < length self.now.rows)) result }
+    {
+        let numbers = pass.numbers;
+        if numbers.station != u64::from(self.number) {
+            return Err(Refusal::PassUnknown);
+        }
+        if numbers.unit > 23 {
+            return Err(Refusal::PassUnknown);
+        }
+        let row = &self.rows[numbers.unit as usize];
+        if !row.is_under(numbers.serial) {
+            return Err(Refusal::PassUnknown);
+        }
+        Ok(numbers.unit as u32)
+    }
+
     pub fn enrol(&mut self, unit: u32, kind: u32) -> Result<(), Refusal>
         ensures { Turn P.PlantLimit.allowed self.old (Enrol unit kind) (done result) self.new }
     {
@@ -140,8 +131,8 @@ impl<P: PlantLimit> Station<P> {
         ensures turn { Turn P.PlantLimit.allowed self.old (Energy pass.now.numbers energy) (done result) self.new }
         ensures pass_kept { pass.exit.now ≡ pass.entry.now }
     {
-        check_power(energy)?;
-        let unit = find(self.number, &self.rows, pass)?;
+        let energy = Power::new(energy)?;
+        let unit = self.find(pass)?;
         let row = &mut self.rows[unit as usize];
         row.energy(unit, energy, &self.plant)
     }
@@ -151,8 +142,8 @@ impl<P: PlantLimit> Station<P> {
         ensures pass_kept { pass.exit.now ≡ pass.entry.now }
     {
         let service = Service::from_number(service)?;
-        check_power(amount)?;
-        let unit = find(self.number, &self.rows, pass)?;
+        let amount = Power::new(amount)?;
+        let unit = self.find(pass)?;
         let row = &mut self.rows[unit as usize];
         row.amount(unit, service, amount, &self.plant)
     }
@@ -164,7 +155,7 @@ impl<P: PlantLimit> Station<P> {
         ensures pass_kept { pass.exit.now ≡ pass.entry.now }
     {
         let service = Service::from_number(service)?;
-        let unit = find(self.number, &self.rows, pass)?;
+        let unit = self.find(pass)?;
         let table = row_of(&self.rows, unit).figures(unit, &self.plant)?;
         Ok(table[service.number as usize])
     }
@@ -176,8 +167,8 @@ impl<P: PlantLimit> Station<P> {
         ensures pass_kept { pass.exit.now ≡ pass.entry.now }
     {
         let service = Service::from_number(service)?;
-        check_power(energy)?;
-        let unit = find(self.number, &self.rows, pass)?;
+        let energy = Power::new(energy)?;
+        let unit = self.find(pass)?;
         Ok(row_of(&self.rows, unit).probe(unit, service, energy, &self.plant))
     }
 
@@ -188,7 +179,7 @@ impl<P: PlantLimit> Station<P> {
         ensures pass_kept { pass.exit.now ≡ pass.entry.now }
     {
         let service = Service::from_number(service)?;
-        let unit = find(self.number, &self.rows, pass)?;
+        let unit = self.find(pass)?;
         Ok(row_of(&self.rows, unit).trapezium(service))
     }
 
@@ -196,7 +187,7 @@ impl<P: PlantLimit> Station<P> {
     pub fn abandon(&mut self, pass: Pass) -> Result<(), Refusal>
         ensures { Turn P.PlantLimit.allowed self.old (Abandon pass.numbers) (done result) self.new }
     {
-        let found = find(self.number, &self.rows, &pass);
+        let found = self.find(&pass);
         let Pass { numbers: _ } = pass;
         let unit = found?;
         let row = &mut self.rows[unit as usize];
@@ -210,7 +201,7 @@ impl<P: PlantLimit> Station<P> {
         if table.len() < 10 {
             return Err(Refusal::TableTooShort);
         }
-        let unit = find(self.number, &self.rows, pass)?;
+        let unit = self.find(pass)?;
         let row = &mut self.rows[unit as usize];
         let figures = row.close(unit, &self.plant)?;
         fill(table, &figures);

@@ -1,5 +1,5 @@
 // What each call does to the row that it is lent.
-ghost use Rattle.std.specs.Prelude.{◌≡◌, ℕ, ◌<◌, ◌≤◌, true, false, not, [], ◌∷◌, ◌++◌, is_some, Some, None, MatchOption, OnErr, ◌==◌, slice_index_or, slice_set};
+ghost use Rattle.std.specs.Prelude.{◌≡◌, ℕ, ◌<◌, ◌≤◌, true, false, not, [], ◌∷◌, ◌++◌, is_some, Some, None, MatchResult, OnErr, ◌==◌, slice_index_or, slice_set};
 ghost use Rattle.std.specs.Option.{option_map};
 ghost use Rattle.limits.specs.Figure.{no_figure};
 ghost use Rattle.limits.specs.Limit.{Borne, breaks, offer_at};
@@ -11,22 +11,17 @@ ghost use Rattle.station.specs.Lent.{Asked, held_faults, Lent, Tried};
 ghost use Rattle.states.specs.State.{energy_of};
 ghost use Rattle.station.specs.View.{entry_of, plant_row};
 
+use crate::power::Power;
 use crate::row::UnitRow;
 use fcas::{CheckedBid, CheckedReading, Kind, Service, Trapezium};
 use limits::{CheckedRow, CheckedTerms, Figure, PlantLimit, Row, figures, first_broken, probe};
 use states::{Event, Refusal, State};
 
-// A bid is put in its place.
-fn place_bid(bids: &mut [Option<CheckedBid>; 10], service: Service, bid: Option<CheckedBid>)
-    ensures { bids.new ≡ slice_set bids.old service.number bid }
+// A bid or an amount is put in the place of its service.
+fn place<T: Copy>(places: &mut [T; 10], service: Service, value: T)
+    ensures { places.new ≡ slice_set places.old service.number value }
 {
-    bids[service.number as usize] = bid;
-}
-
-fn place_amount(amounts: &mut [u32; 10], service: Service, amount: u32)
-    ensures { amounts.new ≡ slice_set amounts.old service.number amount }
-{
-    amounts[service.number as usize] = amount;
+    places[service.number as usize] = value;
 }
 
 // The last serial is never given.
@@ -57,18 +52,14 @@ impl UnitRow {
         ensures { Lent (idle_faults (entry_of self.old)) (option_map (with_bid service.number (Some bid.bid)) (entry_of self.old)) self.old self.new result }
     {
         self.state = self.state.step(Event::Rebid)?;
-        place_bid(&mut self.bids, service, Some(bid));
+        place(&mut self.bids, service, Some(bid));
         Ok(())
     }
 
     fn has_bid(&self, service: Service) -> bool
         ensures { result ≡ is_some (slice_index_or (held_bids self.now.bids) service.number None) }
     {
-        let bid = &self.bids[service.number as usize];
-        match bid {
-            Some(_) => true,
-            None => false,
-        }
+        self.bids[service.number as usize].is_some()
     }
 
     pub(crate) fn withdraw(&mut self, service: Service) -> Result<(), Refusal>
@@ -79,7 +70,7 @@ impl UnitRow {
             return Err(Refusal::NoBid);
         }
         self.state = state;
-        place_bid(&mut self.bids, service, None);
+        place(&mut self.bids, service, None);
         Ok(())
     }
 
@@ -108,16 +99,15 @@ impl UnitRow {
     }
 
     // The row at an energy, as a plant limit sees it.
-    fn at(&self, unit: u32, energy: u32) -> CheckedRow
-        requires { energy ≤ 4000000 }
-        ensures { result.row ≡ plant_row unit energy self.now }
+    fn at(&self, unit: u32, energy: Power) -> CheckedRow
+        ensures { result.row ≡ plant_row unit energy.kilowatts self.now }
     {
         let amounts = self.amounts;
         CheckedRow {
             row: Row {
                 unit,
                 kind: self.kind,
-                energy: energy as i32,
+                energy: energy.kilowatts as i32,
                 amounts,
             },
         }
@@ -128,33 +118,35 @@ impl UnitRow {
         ensures { Asked (held_faults (entry_of self.now)) (λ row. row.row ≡ plant_row unit (energy_of self.now.state) self.now) result }
     {
         self.state.step(Event::AtEnergy)?;
-        Ok(self.at(unit, self.state.energy()))
+        let energy = Power {
+            kilowatts: self.state.energy(),
+        };
+        Ok(self.at(unit, energy))
     }
 
-    // The refusal by the first limit that a row of the unit breaks.
-    fn limit_refusal<P: PlantLimit>(&self, row: &CheckedRow, plant: &P) -> Option<Refusal>
-        ensures { MatchOption result (Borne (breaks (P.PlantLimit.allowed plant.now) self.now.terms.terms row.now.row)) (λ refusal. Named (breaks (P.PlantLimit.allowed plant.now) self.now.terms.terms row.now.row) self.now.kind (told refusal)) }
+    // A row of the unit is refused by the first limit that it breaks.
+    fn check_limits<P: PlantLimit>(&self, row: &CheckedRow, plant: &P) -> Result<(), Refusal>
+        ensures { MatchResult result (λ _. Borne (breaks (P.PlantLimit.allowed plant.now) self.now.terms.terms row.now.row)) (λ refusal. Named (breaks (P.PlantLimit.allowed plant.now) self.now.terms.terms row.now.row) self.now.kind (told refusal)) }
     {
         match first_broken(&self.terms, row, plant) {
-            Some(limit) => Some(Refusal::broken(limit, self.kind)),
-            None => None,
+            Some(limit) => Err(Refusal::broken(limit, self.kind)),
+            None => Ok(()),
         }
     }
 
     pub(crate) fn energy<P: PlantLimit>(
         &mut self,
         unit: u32,
-        energy: u32,
+        energy: Power,
         plant: &P,
     ) -> Result<(), Refusal>
-        requires { energy ≤ 4000000 }
-        ensures { Tried ((28, not (is_open (entry_of self.old))) ∷ []) (broken_at (P.PlantLimit.allowed plant.now) unit energy (entry_of self.old)) (kind_in (entry_of self.old)) (option_map (on_interval (with_energy energy)) (entry_of self.old)) self.old self.new result }
+        ensures { Tried ((28, not (is_open (entry_of self.old))) ∷ []) (broken_at (P.PlantLimit.allowed plant.now) unit energy.kilowatts (entry_of self.old)) (kind_in (entry_of self.old)) (option_map (on_interval (with_energy energy.kilowatts)) (entry_of self.old)) self.old self.new result }
     {
-        let state = self.state.step(Event::Energy { energy })?;
+        let state = self.state.step(Event::Energy {
+            energy: energy.kilowatts,
+        })?;
         let row = self.at(unit, energy);
-        if let Some(refusal) = self.limit_refusal(&row, plant) {
-            return Err(refusal);
-        }
+        self.check_limits(&row, plant)?;
         self.state = state;
         Ok(())
     }
@@ -163,20 +155,17 @@ impl UnitRow {
         &mut self,
         unit: u32,
         service: Service,
-        amount: u32,
+        amount: Power,
         plant: &P,
     ) -> Result<(), Refusal>
-        requires { amount ≤ 4000000 }
-        ensures { Tried (held_faults (entry_of self.old) ++ ((30, not (is_live service.number (entry_of self.old))) ∷ [])) (broken_with (P.PlantLimit.allowed plant.now) unit service.number amount (entry_of self.old)) (kind_in (entry_of self.old)) (option_map (on_interval (with_amount_of service.number amount)) (entry_of self.old)) self.old self.new result }
+        ensures { Tried (held_faults (entry_of self.old) ++ ((30, not (is_live service.number (entry_of self.old))) ∷ [])) (broken_with (P.PlantLimit.allowed plant.now) unit service.number amount.kilowatts (entry_of self.old)) (kind_in (entry_of self.old)) (option_map (on_interval (with_amount_of service.number amount.kilowatts)) (entry_of self.old)) self.old self.new result }
     {
         let row = with_amount(self.held(unit)?, service, amount);
         if !self.is_live(service) {
             return Err(Refusal::NotLive);
         }
-        if let Some(refusal) = self.limit_refusal(&row, plant) {
-            return Err(refusal);
-        }
-        place_amount(&mut self.amounts, service, amount);
+        self.check_limits(&row, plant)?;
+        place(&mut self.amounts, service, amount.kilowatts);
         Ok(())
     }
 
@@ -195,10 +184,7 @@ impl UnitRow {
         ensures { BearsRow (P.PlantLimit.allowed plant.now) unit (entry_of self.now) → Asked (held_faults (entry_of self.now)) (λ table. (service : ℕ) → service < 10 → FigureIn (P.PlantLimit.allowed plant.now) unit service (entry_of self.now) (slice_index_or table service no_figure)) result }
     {
         let row = self.held(unit)?;
-        match figures(&self.terms, &row, plant) {
-            Some(table) => Ok(table),
-            None => Err(Refusal::NoEnergy),
-        }
+        figures(&self.terms, &row, plant).ok_or(Refusal::NoEnergy)
     }
 
     // The interval ends with its ten figures.
@@ -220,12 +206,10 @@ impl UnitRow {
         ensures { result ≡ is_under serial (entry_of self.now) }
     {
         match self.state {
-            State::Open { serial: held } => held == serial,
-            State::OpenWithEnergy {
-                serial: held,
-                energy: _,
-            } => held == serial,
-            _ => false,
+            State::Open { serial: held } | State::OpenWithEnergy { serial: held, .. } => {
+                held == serial
+            }
+            State::Vacant | State::Idle => false,
         }
     }
 
@@ -233,11 +217,10 @@ impl UnitRow {
         &self,
         unit: u32,
         service: Service,
-        energy: u32,
+        energy: Power,
         plant: &P,
     ) -> Option<Figure>
-        requires { energy ≤ 4000000 }
-        ensures { is_open (entry_of self.now) ≡ true → ProbedIn (P.PlantLimit.allowed plant.now) unit service.number energy (entry_of self.now) result }
+        ensures { is_open (entry_of self.now) ≡ true → ProbedIn (P.PlantLimit.allowed plant.now) unit service.number energy.kilowatts (entry_of self.now) result }
     {
         probe(&self.terms, &self.at(unit, energy), plant, service)
     }
@@ -245,19 +228,15 @@ impl UnitRow {
     pub(crate) fn trapezium(&self, service: Service) -> Option<Trapezium>
         ensures { is_open (entry_of self.now) ≡ true → result ≡ trapezium_in service.number (entry_of self.now) }
     {
-        let bid = &self.bids[service.number as usize];
-        match bid {
-            Some(bid) => Some(Trapezium::new(self.kind, service, bid, &self.reading)),
-            None => None,
-        }
+        let bid = self.bids[service.number as usize];
+        bid.map(|bid| Trapezium::new(self.kind, service, &bid, &self.reading))
     }
 }
 
-fn with_amount(row: CheckedRow, service: Service, amount: u32) -> CheckedRow
-    requires { amount ≤ 4000000 }
-    ensures { result.row ≡ with_amount row.row service.number amount }
+fn with_amount(row: CheckedRow, service: Service, amount: Power) -> CheckedRow
+    ensures { result.row ≡ with_amount row.row service.number amount.kilowatts }
 {
     let mut row = row.row;
-    row.amounts[service.number as usize] = amount;
+    place(&mut row.amounts, service, amount.kilowatts);
     CheckedRow { row }
 }

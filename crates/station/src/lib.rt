@@ -5,6 +5,7 @@ mod call;
 mod calls;
 mod lent;
 mod pass;
+mod power;
 mod row;
 mod run;
 mod station;

@@ -1,15 +1,16 @@
 // Stations are made, and run: calls as values, one more call after any past, and a whole list of calls.
 ghost use Rattle.std.specs.Prelude.{◌≡◌, ◌≤◌, [], length, IfOk, None};
+ghost use Rattle.std.specs.Fn.{FnOnceReturnsAt};
 ghost use Rattle.station.specs.Sound.{Follows, Lawful, Made, Sound, upon};
-ghost use Rattle.station.specs.Turn.{done as done_by, figured as figured_by, opened_by, probed_by, scaled as scaled_by, Turn};
+ghost use Rattle.station.specs.Turn.{done as done_by, Turn};
 ghost use Rattle.station.specs.View.{entry_of};
-ghost use Rattle.station.specs.declared.call.Call.TheVariants.{Abandon, Amount, Close, Energy, Figure as Figures, Probe, Trapezium as Scales};
+ghost use Rattle.station.specs.declared.call.Call.TheVariants.{Amount, Close, Energy};
 
 use crate::call::{Answer, Call};
 use crate::pass::{Pass, PassNumbers, Returned};
 use crate::row::UnitRow;
 use crate::station::Station;
-use fcas::{AgcStatus, CheckedReading, Kind, Measured, Trapezium};
+use fcas::{AgcStatus, CheckedReading, Kind, Measured};
 use limits::{CheckedTerms, Figure, PlantLimit};
 use states::{Refusal, State};
 use std::alloc::{AllocError, Global};
@@ -42,57 +43,29 @@ impl UnitRow {
     }
 }
 
-fn done(res: Result<(), Refusal>) -> Answer
-    ensures { result ≡ done_by res }
+fn done(outcome: Result<(), Refusal>) -> Answer
+    ensures { result ≡ done_by outcome }
 {
-    match res {
-        Ok(()) => Answer::Done,
-        Err(refusal) => Answer::Refused(refusal),
-    }
+    outcome.map_or_else(Answer::Refused, |()| Answer::Done)
 }
 
-fn opened(res: Result<Pass, Refusal>) -> Answer
-    ensures { result ≡ opened_by res }
-{
-    match res {
-        Ok(Pass { numbers }) => Answer::Opened(numbers),
-        Err(refusal) => Answer::Refused(refusal),
-    }
-}
-
-fn figured(res: Result<Figure, Refusal>) -> Answer
-    ensures { result ≡ figured_by res }
-{
-    match res {
-        Ok(figure) => Answer::Figure(figure),
-        Err(refusal) => Answer::Refused(refusal),
-    }
-}
-
-fn probed(res: Result<Option<Figure>, Refusal>) -> Answer
-    ensures { result ≡ probed_by res }
-{
-    match res {
-        Ok(figure) => Answer::Probed(figure),
-        Err(refusal) => Answer::Refused(refusal),
-    }
-}
-
-fn scaled(res: Result<Option<Trapezium>, Refusal>) -> Answer
-    ensures { result ≡ scaled_by res }
-{
-    match res {
-        Ok(trapezium) => Answer::Trapezium(trapezium),
-        Err(refusal) => Answer::Refused(refusal),
-    }
-}
-
-// A pass that was made from its numbers for one call is taken apart again.
+// A pass is taken apart into its numbers.
 fn take_apart(pass: Pass) -> PassNumbers
     ensures { result ≡ pass.numbers }
 {
     let Pass { numbers } = pass;
     numbers
+}
+
+// One question is asked with a pass of these numbers.
+fn with_pass<R, F: FnOnce(&Pass) -> R>(numbers: PassNumbers, ask: F) -> R
+    requires { F.IsAlwaysCallable ask }
+    ensures { FnOnceReturnsAt F.FnOnce ask (record { numbers = numbers }) result }
+{
+    let pass = Pass { numbers };
+    let given = ask(&pass);
+    take_apart(pass);
+    given
 }
 
 impl<P: PlantLimit> Station<P> {
@@ -108,49 +81,23 @@ impl<P: PlantLimit> Station<P> {
         }
     }
 
+    // `with_pass` doesn't serve where a call changes the station: the proof knows nothing of a station that a closure changed.
     fn apply_energy(&mut self, numbers: PassNumbers, energy: u32) -> Answer
         ensures { Turn P.PlantLimit.allowed self.old (Energy numbers energy) result self.new }
     {
         let pass = Pass { numbers };
-        let result = self.energy(&pass, energy);
+        let outcome = self.energy(&pass, energy);
         take_apart(pass);
-        done(result)
+        done(outcome)
     }
 
     fn apply_amount(&mut self, numbers: PassNumbers, service: u32, amount: u32) -> Answer
         ensures { Turn P.PlantLimit.allowed self.old (Amount numbers service amount) result self.new }
     {
         let pass = Pass { numbers };
-        let result = self.amount(&pass, service, amount);
+        let outcome = self.amount(&pass, service, amount);
         take_apart(pass);
-        done(result)
-    }
-
-    fn apply_figure(&self, numbers: PassNumbers, service: u32) -> Answer
-        ensures { Turn P.PlantLimit.allowed self.entry.now (Figures numbers service) result self.exit.now }
-    {
-        let pass = Pass { numbers };
-        let result = self.figure(&pass, service);
-        take_apart(pass);
-        figured(result)
-    }
-
-    fn apply_probe(&self, numbers: PassNumbers, service: u32, energy: u32) -> Answer
-        ensures { Turn P.PlantLimit.allowed self.entry.now (Probe numbers service energy) result self.exit.now }
-    {
-        let pass = Pass { numbers };
-        let result = self.probe(&pass, service, energy);
-        take_apart(pass);
-        probed(result)
-    }
-
-    fn apply_trapezium(&self, numbers: PassNumbers, service: u32) -> Answer
-        ensures { Turn P.PlantLimit.allowed self.entry.now (Scales numbers service) result self.exit.now }
-    {
-        let pass = Pass { numbers };
-        let result = self.trapezium(&pass, service);
-        take_apart(pass);
-        scaled(result)
+        done(outcome)
     }
 
     // A table of ten places stands for any longer one.
@@ -179,20 +126,32 @@ impl<P: PlantLimit> Station<P> {
             Call::Retire { unit } => done(self.retire(*unit)),
             Call::Bid { unit, service, bid } => done(self.bid(*unit, *service, bid)),
             Call::Withdraw { unit, service } => done(self.withdraw(*unit, *service)),
-            Call::Open { unit, reading } => opened(self.open(*unit, reading)),
+            Call::Open { unit, reading } => {
+                let outcome = self.open(*unit, reading);
+                outcome.map_or_else(Answer::Refused, |pass| Answer::Opened(take_apart(pass)))
+            }
             Call::Energy { pass, energy } => self.apply_energy(*pass, *energy),
             Call::Amount {
                 pass,
                 service,
                 amount,
             } => self.apply_amount(*pass, *service, *amount),
-            Call::Figure { pass, service } => self.apply_figure(*pass, *service),
+            Call::Figure { pass, service } => {
+                let outcome = with_pass(*pass, |pass| self.figure(pass, *service));
+                outcome.map_or_else(Answer::Refused, Answer::Figure)
+            }
             Call::Probe {
                 pass,
                 service,
                 energy,
-            } => self.apply_probe(*pass, *service, *energy),
-            Call::Trapezium { pass, service } => self.apply_trapezium(*pass, *service),
+            } => {
+                let outcome = with_pass(*pass, |pass| self.probe(pass, *service, *energy));
+                outcome.map_or_else(Answer::Refused, Answer::Probed)
+            }
+            Call::Trapezium { pass, service } => {
+                let outcome = with_pass(*pass, |pass| self.trapezium(pass, *service));
+                outcome.map_or_else(Answer::Refused, Answer::Trapezium)
+            }
             Call::Close { pass, places } => self.apply_close(*pass, *places),
             Call::Abandon { pass } => done(self.abandon(Pass { numbers: *pass })),
             Call::Lapse { unit } => done(self.lapse(*unit)),

@@ -1,9 +1,6 @@
 use Rattle.std.proofs.Common.{rules}
-use Rattle.station.proofs.Rows.{held_at}
+use Rattle.station.proofs.Rows.{bare_some, held_at}
 use Rattle.station.proofs.row.UnitRow.has_bid.Goals as goal
 
-pub returns-in-Some : goal.returns-in-Some
-returns-in-Some c = rw (held_at c.args.self.now.bids c.args.service.number c.index-self-service.result (search rules)) (rw c.in-Some.is)
-
-pub returns-in-None : goal.returns-in-None
-returns-in-None c = rw (held_at c.args.self.now.bids c.args.service.number c.index-self-service.result (search rules)) (rw c.in-None.is)
+pub returns : goal.returns
+returns c = rw (held_at c.args.self.now.bids c.args.service.number c.index-self-service.result (search rules), bare_some) c.is_some.ensures

@@ -14,8 +14,7 @@ pub returns : goal.returns
 returns g c =
     let within : c.args.unit < length c.args.self.now.rows = search rules in
     let service = c.in_ok-service.service.number in
-    let known = subst (λ (n : ℕ). first_of (service_faults n) ≡ None) (sym c.in_ok-service.ensures.1) c.in_ok-service.ensures.0 in
-    subst (λ (n : ℕ). Turn g.P.PlantLimit.allowed c.args.self.now (Withdraw c.args.unit n) (done c.withdraw.result) (with_rows c.args.self.now (set c.args.self.now.rows c.args.unit c.withdraw.new.self))) c.in_ok-service.ensures.1
+    rw (sym c.in_ok-service.ensures.1)
     (by_unit g.P.PlantLimit.allowed c.args.self.now c.args.unit c.index-self-unit.result c.withdraw.new.self within
     (Withdraw c.args.unit service) (unit_faults c.args.unit ++ service_faults service) (λ entry. idle_faults entry ++ ((26, not (is_some (bid_of entry service))) ∷ [])) (option_map (with_bid service None))
-    (first_skip (unit_faults c.args.unit) (service_faults service) c.in_ok-check_unit.ensures.0 ∙ known) refl refl c.withdraw.result (λ _. refl) refl refl c.withdraw.ensures)
+    (first_skip (unit_faults c.args.unit) (service_faults service) c.in_ok-check_unit.ensures.0 ∙ rw c.in_ok-service.ensures.1 c.in_ok-service.ensures.0) refl refl c.withdraw.result (λ _. refl) refl refl c.withdraw.ensures)
