@@ -1,5 +1,4 @@
 // An answer of the station to the bytes of its line.
-use crate::fault::Fault;
 use fcas::Trapezium;
 use limits::Figure;
 use numerals::put_number;
@@ -108,10 +107,3 @@ pub(crate) fn put_answer(answer: &Answer, out: &mut Vec<u8>) -> Result<(), Alloc
     Ok(())
 }
 
-// The line that answers what is no call.
-pub(crate) fn put_error(fault: Fault, out: &mut Vec<u8>) -> Result<(), AllocError> {
-    out.extend_from_slice(b"error ")?;
-    out.extend_from_slice(fault.words().as_bytes())?;
-    out.push(b'\n')?;
-    Ok(())
-}

@@ -1,21 +1,12 @@
 // The words of a line to a call of the station.
 use crate::fault::Fault;
-use crate::lines::find;
+use crate::lines::split_once;
 use crate::parse::Words;
 use numerals::whole;
 use station::{Call, PassNumbers};
 
 // The places of a table that holds all ten figures.
 const ALL_PLACES: u64 = 10;
-
-// What stands before the first colon, and what after it.
-fn cut_at_colon(word: &[u8]) -> Option<(&[u8], &[u8])> {
-    let colon = find(word, b':');
-    if colon == word.len() {
-        return None;
-    }
-    Some((&word[0..colon], &word[colon + 1..]))
-}
 
 // A part of a pass, which has a digit at least.
 fn part(word: &[u8]) -> Option<u64> {
@@ -27,8 +18,8 @@ fn part(word: &[u8]) -> Option<u64> {
 
 // Three whole numbers with colons between them. Any three are taken: the station knows its own passes.
 fn pass_numbers(word: &[u8]) -> Option<PassNumbers> {
-    let (station, rest) = cut_at_colon(word)?;
-    let (unit, serial) = cut_at_colon(rest)?;
+    let (station, rest) = split_once(word, b':')?;
+    let (unit, serial) = split_once(rest, b':')?;
     Some(PassNumbers {
         station: part(station)?,
         unit: part(unit)?,
@@ -37,20 +28,14 @@ fn pass_numbers(word: &[u8]) -> Option<PassNumbers> {
 }
 
 fn pass(words: &mut Words<'_>) -> Result<PassNumbers, Fault> {
-    match pass_numbers(words.word()?) {
-        Some(pass) => Ok(pass),
-        None => Err(Fault::NoPass),
-    }
+    pass_numbers(words.word()?).ok_or(Fault::NoPass)
 }
 
 // The places of a table that may be left out.
 fn places(words: &mut Words<'_>) -> Result<u64, Fault> {
-    let Some(word) = words.next_word() else {
-        return Ok(ALL_PLACES);
-    };
-    match whole(word) {
-        Some(places) => Ok(places),
-        None => Err(Fault::NotWhole),
+    match words.next_word() {
+        Some(word) => whole(word).ok_or(Fault::NotWhole),
+        None => Ok(ALL_PLACES),
     }
 }
 

@@ -11,6 +11,6 @@ mod print;
 mod serve;
 mod survey;
 
-pub use lines::{Line, Session, run};
+pub use lines::{Session, TooLong, run};
 pub use serve::Server;
 pub use survey::Survey;

@@ -1,7 +1,7 @@
 // Lines of bytes, read in chunks and handed to a session one by one. Memory does not grow with the input.
-ghost use Rattle.std.specs.Prelude.{◌<◌, ◌≤◌, length, IfSome, IfOk};
+ghost use Rattle.std.specs.Prelude.{◌≤◌, vec_len, IfOk};
 
-use std::alloc::Global;
+use std::alloc::{AllocError, Global};
 use std::io;
 use std::io::{ErrorKind, Read, Write};
 
@@ -10,135 +10,106 @@ const CHUNK: usize = 65536;
 // The longest line that is read, its comment aside and a run of blanks counted as one byte.
 const LONGEST: usize = 65536;
 
-#[derive(Clone, Copy)]
-pub enum Line<'a> {
-    Text(&'a [u8]),
-    TooLong,
-}
+// What is handed on in place of a line that is longer.
+#[derive(Clone, Copy, Debug)]
+pub struct TooLong;
 
 // What answers lines: each line in turn, and then the end of the input.
 pub trait Session {
-    fn take(&mut self, line: Line<'_>, out: &mut Vec<u8>) -> io::Result<()>;
+    fn take(&mut self, line: Result<&[u8], TooLong>, out: &mut Vec<u8>) -> io::Result<()>;
 
     fn end(&mut self, out: &mut Vec<u8>) -> io::Result<()>;
+}
+
+// What stands before the first such byte, and what after it.
+pub(crate) fn split_once(bytes: &[u8], separator: u8) -> Option<(&[u8], &[u8])> {
+    let at = bytes.iter().position(|byte| *byte == separator)?;
+    Some((&bytes[..at], &bytes[at + 1..]))
+}
+
+// What stands before a comment.
+fn uncommented(bytes: &[u8]) -> &[u8] {
+    split_once(bytes, b'#').map_or(bytes, |(text, _)| text)
+}
+
+// A line may end with a carriage return before its line break.
+fn without_return(bytes: &[u8]) -> &[u8] {
+    bytes.strip_suffix(b"\r").unwrap_or(bytes)
+}
+
+pub(crate) fn is_blank(byte: &u8) -> bool {
+    matches!(byte, b' ' | b'\t')
+}
+
+// How far a line that a chunk broke off has come.
+#[derive(Clone, Copy, PartialEq, Eq)]
+enum Stage {
+    NotBegun,
+    Text,
+    Comment,
+    TooLong,
 }
 
 // The front of a line that a chunk broke off.
 #[derive(Drop)]
 struct Partial {
-    bytes: [u8; LONGEST],
-    len: usize,
-    is_begun: bool,
-    is_comment: bool,
-    is_too_long: bool,
-    ghost within: { len ≤ 65536 },
-}
-
-// Where the first such byte stands, or the length where there is none.
-pub(crate) fn find(bytes: &[u8], sought: u8) -> usize
-    ensures { result ≤ length bytes.now }
-{
-    for (i, b) in bytes.iter().enumerate() {
-        if *b == sought {
-            return i;
-        }
-    }
-    bytes.len()
-}
-
-// What stands before a comment.
-fn uncommented(bytes: &[u8]) -> &[u8] {
-    &bytes[0..find(bytes, b'#')]
-}
-
-// A line may end with a carriage return before its line break.
-fn without_return(bytes: &[u8]) -> &[u8] {
-    match bytes {
-        [front @ .., b'\r'] => front,
-        _ => bytes,
-    }
-}
-
-pub(crate) fn is_blank(byte: u8) -> bool {
-    byte == b' ' || byte == b'\t'
+    text: Vec<u8>,
+    stage: Stage,
+    ghost within: { vec_len text ≤ 65536 },
 }
 
 impl Partial {
-    fn new() -> Partial {
-        Partial {
-            bytes: [0; LONGEST],
-            len: 0,
-            is_begun: false,
-            is_comment: false,
-            is_too_long: false,
-        }
+    // It has room for the longest line, and never takes more.
+    fn new(heap: Global) -> Result<Partial, AllocError> {
+        Ok(Partial {
+            text: Vec::with_capacity(heap, LONGEST)?,
+            stage: Stage::NotBegun,
+        })
     }
 
     fn clear(&mut self) {
-        self.len = 0;
-        self.is_begun = false;
-        self.is_comment = false;
-        self.is_too_long = false;
+        self.text.clear();
+        self.stage = Stage::NotBegun;
     }
 
-    // Whether a blank here would add nothing to the line.
-    fn is_after_blank(&self) -> bool {
-        let len = self.len;
-        len == 0 || len == LONGEST || is_blank(self.bytes[len - 1])
-    }
-
-    fn add_byte(&mut self, byte: u8) {
-        if is_blank(byte) && self.is_after_blank() {
-            return;
+    // Adds a byte, but for a blank that would add nothing to the line.
+    fn add_byte(&mut self, byte: u8) -> Result<(), AllocError> {
+        let is_full = self.text.len() == LONGEST;
+        if is_blank(&byte) && (is_full || self.text.last().is_none_or(is_blank)) {
+            return Ok(());
         }
-        let len = self.len;
-        if len == LONGEST {
-            self.is_too_long = true;
-            return;
+        if is_full {
+            self.stage = Stage::TooLong;
+            return Ok(());
         }
-        self.bytes[len] = byte;
-        self.len = len + 1;
+        self.text.push(byte)?;
+        Ok(())
     }
 
     // Adds a piece. A comment is let go, and so is what has no room.
-    fn add(&mut self, piece: &[u8]) {
-        if piece.is_empty() {
-            return;
+    fn add(&mut self, piece: &[u8]) -> Result<(), AllocError> {
+        if piece.is_empty() || matches!(self.stage, Stage::Comment | Stage::TooLong) {
+            return Ok(());
         }
-        self.is_begun = true;
-        if self.is_comment {
-            return;
-        }
-        let text = uncommented(piece);
-        self.is_comment = text.len() < piece.len();
+        let (text, stage) = match split_once(piece, b'#') {
+            Some((text, _)) => (text, Stage::Comment),
+            None => (piece, Stage::Text),
+        };
+        self.stage = stage;
         for byte in text {
-            self.add_byte(*byte);
+            self.add_byte(*byte)?;
         }
+        Ok(())
     }
 
-    fn line(&self) -> Line<'_> {
-        if self.is_too_long {
-            return Line::TooLong;
-        }
-        let all = &self.bytes[..];
-        let text = &all[0..self.len];
-        if self.is_comment {
-            Line::Text(text)
-        } else {
-            Line::Text(without_return(text))
+    fn line(&self) -> Result<&[u8], TooLong> {
+        let text = self.text.as_slice();
+        match self.stage {
+            Stage::NotBegun | Stage::Text => Ok(without_return(text)),
+            Stage::Comment => Ok(text),
+            Stage::TooLong => Err(TooLong),
         }
     }
-}
-
-// The first line, without its line break, and what follows that.
-fn cut_line(bytes: &[u8]) -> Option<(&[u8], &[u8])>
-    ensures { IfSome result (λ p. length p.1.now < length bytes.now) }
-{
-    let end = find(bytes, b'\n');
-    if end == bytes.len() {
-        return None;
-    }
-    Some((&bytes[0..end], &bytes[end + 1..]))
 }
 
 // Hands on the lines of a chunk, and keeps the front of one that goes on in the next.
@@ -148,18 +119,20 @@ fn take_chunk<S: Session>(
     chunk: &[u8],
     out: &mut Vec<u8>,
 ) -> io::Result<()> {
-    let mut rest = chunk;
-    while let Some((piece, after)) = cut_line(rest) {
-        if partial.is_begun {
-            partial.add(piece);
-            session.take(partial.line(), out)?;
-            partial.clear();
-        } else {
-            session.take(Line::Text(uncommented(without_return(piece))), out)?;
+    for piece in chunk.split_inclusive(|byte| *byte == b'\n') {
+        match piece {
+            [line @ .., b'\n'] => {
+                if partial.stage == Stage::NotBegun {
+                    session.take(Ok(uncommented(without_return(line))), out)?;
+                } else {
+                    partial.add(line)?;
+                    session.take(partial.line(), out)?;
+                    partial.clear();
+                }
+            }
+            front => partial.add(front)?,
         }
-        rest = after;
     }
-    partial.add(rest);
     Ok(())
 }
 
@@ -168,13 +141,9 @@ fn read_chunk<R: Read>(input: &mut R, chunk: &mut [u8; CHUNK]) -> io::Result<usi
     ensures { IfOk result (λ n. n ≤ 65536) }
 {
     for _ in 0..u64::MAX {
-        match input.read(&mut chunk[0..CHUNK]) {
-            Ok(n) => return Ok(n),
-            Err(e) => {
-                if e.kind() != ErrorKind::Interrupted {
-                    return Err(e);
-                }
-            }
+        match input.read(chunk) {
+            Err(e) if e.kind() == ErrorKind::Interrupted => {}
+            read => return read,
         }
     }
     Ok(0)
@@ -194,17 +163,17 @@ pub fn run<S: Session, R: Read, W: Write>(
     heap: Global,
 ) -> io::Result<()> {
     let mut chunk = [0u8; CHUNK];
-    let mut partial = Partial::new();
+    let mut partial = Partial::new(heap)?;
     let mut out = Vec::with_capacity(heap, CHUNK)?;
     for _ in 0..u64::MAX {
         let n = read_chunk(input, &mut chunk)?;
         if n == 0 {
             break;
         }
-        take_chunk(session, &mut partial, &chunk[0..n], &mut out)?;
+        take_chunk(session, &mut partial, &chunk[..n], &mut out)?;
         send(&mut out, to)?;
     }
-    if partial.is_begun {
+    if partial.stage != Stage::NotBegun {
         session.take(partial.line(), &mut out)?;
     }
     session.end(&mut out)?;

@@ -1,11 +1,12 @@
 // The words of a line, and what they stand for.
-ghost use Rattle.std.specs.Prelude.{◌≡◌, ◌≤◌, min, length};
+ghost use Rattle.std.specs.Prelude.{◌≡◌, min};
 
 use crate::fault::Fault;
 use crate::lines::is_blank;
 use fcas::{Bid, Reading};
 use numerals::whole;
 use plants::{Bare, Both, ConnectionCap, GovernorShare, PlantChoice};
+use std::array;
 use std::str::from_utf8;
 
 #[derive(Drop)]
@@ -13,46 +14,17 @@ pub struct Words<'a> {
     rest: &'a [u8],
 }
 
-// How many bytes at the front are blank.
-fn blanks(bytes: &[u8]) -> usize
-    ensures { result ≤ length bytes.now }
-{
-    for (i, byte) in bytes.iter().enumerate() {
-        if !is_blank(*byte) {
-            return i;
-        }
-    }
-    bytes.len()
-}
-
-// How many bytes at the front are not.
-fn word_length(bytes: &[u8]) -> usize
-    ensures { result ≤ length bytes.now }
-{
-    for (i, byte) in bytes.iter().enumerate() {
-        if is_blank(*byte) {
-            return i;
-        }
-    }
-    bytes.len()
-}
-
 // A decimal number as Rust reads a 64-bit float.
 fn float(word: &[u8]) -> Result<f64, Fault> {
-    let Ok(text) = from_utf8(word) else {
-        return Err(Fault::NotFloat);
-    };
-    match text.parse::<f64>() {
-        Ok(number) => Ok(number),
-        Err(_) => Err(Fault::NotFloat),
-    }
+    let text = from_utf8(word).map_err(|_| Fault::NotFloat)?;
+    text.parse().map_err(|_| Fault::NotFloat)
 }
 
 // A number that is checked later: one that 32 bits do not hold is above every range, and so is what stands for it.
 fn narrowed(number: u64) -> u32
     ensures { result ≡ min number 4294967295 }
 {
-    number.min(4_294_967_295) as u32
+    u32::try_from(number).unwrap_or(u32::MAX)
 }
 
 fn kind_named(word: &[u8]) -> Option<u32> {
@@ -88,21 +60,16 @@ impl<'a> Words<'a> {
 
     pub(crate) fn next_word(&mut self) -> Option<&'a [u8]> {
         let line = self.rest;
-        let from_word = &line[blanks(line)..];
-        let end = word_length(from_word);
-        self.rest = &from_word[end..];
-        if end == 0 {
-            None
-        } else {
-            Some(&from_word[0..end])
-        }
+        let start = line.iter().position(|byte| !is_blank(byte))?;
+        let from_word = &line[start..];
+        let end = from_word.iter().position(is_blank);
+        let (word, rest) = from_word.split_at(end.unwrap_or(from_word.len()));
+        self.rest = rest;
+        Some(word)
     }
 
     pub(crate) fn word(&mut self) -> Result<&'a [u8], Fault> {
-        match self.next_word() {
-            Some(word) => Ok(word),
-            None => Err(Fault::TooFewWords),
-        }
+        self.next_word().ok_or(Fault::TooFewWords)
     }
 
     // No word is left.
@@ -114,10 +81,7 @@ impl<'a> Words<'a> {
     }
 
     pub(crate) fn whole(&mut self) -> Result<u64, Fault> {
-        match whole(self.word()?) {
-            Some(number) => Ok(number),
-            None => Err(Fault::NotWhole),
-        }
+        whole(self.word()?).ok_or(Fault::NotWhole)
     }
 
     // A number that is checked later.
@@ -127,11 +91,7 @@ impl<'a> Words<'a> {
 
     // A number that has to fit 32 bits, as those of a station and of a plant have to.
     pub(crate) fn narrow(&mut self, fault: Fault) -> Result<u32, Fault> {
-        let number = self.whole()?;
-        if number > 4_294_967_295 {
-            return Err(fault);
-        }
-        Ok(number as u32)
+        u32::try_from(self.whole()?).map_err(|_| fault)
     }
 
     fn float(&mut self) -> Result<f64, Fault> {
@@ -140,56 +100,48 @@ impl<'a> Words<'a> {
 
     // A float, or `-` for none.
     fn float_or_absent(&mut self) -> Result<Option<f64>, Fault> {
-        let word = self.word()?;
-        if let b"-" = word {
-            return Ok(None);
+        match self.word()? {
+            b"-" => Ok(None),
+            word => float(word).map(Some),
         }
-        Ok(Some(float(word)?))
+    }
+
+    // A number that is checked later, and that may be named.
+    fn number_or_name<F: FnOnce(&[u8]) -> Option<u32>>(
+        &mut self,
+        named: F,
+        fault: Fault,
+    ) -> Result<u32, Fault>
+        requires { F.IsAlwaysCallable named }
+    {
+        let word = self.word()?;
+        named(word)
+            .or_else(|| whole(word).map(narrowed))
+            .ok_or(fault)
     }
 
     // The number of a kind, which may be named.
     pub(crate) fn kind(&mut self) -> Result<u32, Fault> {
-        let word = self.word()?;
-        if let Some(number) = kind_named(word) {
-            return Ok(number);
-        }
-        match whole(word) {
-            Some(number) => Ok(narrowed(number)),
-            None => Err(Fault::NoKind),
-        }
+        self.number_or_name(kind_named, Fault::NoKind)
     }
 
     // The number of a service, which may be named.
     pub(crate) fn service(&mut self) -> Result<u32, Fault> {
-        let word = self.word()?;
-        if let Some(number) = service_named(word) {
-            return Ok(number);
-        }
-        match whole(word) {
-            Some(number) => Ok(narrowed(number)),
-            None => Err(Fault::NoService),
-        }
+        self.number_or_name(service_named, Fault::NoService)
     }
 
     // Ten numbers: the bands of a bid, or the amounts of a row.
     pub(crate) fn ten(&mut self) -> Result<[u32; 10], Fault> {
-        let mut numbers = [0; 10];
-        for number in numbers.iter_mut() {
-            *number = self.number()?;
-        }
-        Ok(numbers)
+        array::try_from_fn(|_| self.number())
     }
 
     // An energy; one that 31 bits do not hold is above every range, and so is what stands for it.
     pub(crate) fn energy(&mut self) -> Result<i32, Fault> {
-        Ok(self.number()?.min(2_147_483_647) as i32)
+        Ok(i32::try_from(self.number()?).unwrap_or(i32::MAX))
     }
 
     fn caps(&mut self) -> Result<ConnectionCap, Fault> {
-        let mut caps = [0; 24];
-        for cap in caps.iter_mut() {
-            *cap = self.narrow(Fault::TooWide)?;
-        }
+        let caps = array::try_from_fn(|_| self.narrow(Fault::TooWide))?;
         Ok(ConnectionCap { caps })
     }
 

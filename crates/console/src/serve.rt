@@ -1,12 +1,13 @@
 // A station that is called line by line.
-use crate::answers::{put_answer, put_error};
+use crate::answers::put_answer;
 use crate::calls::read_call;
 use crate::fault::Fault;
-use crate::lines::{Line, Session};
+use crate::lines::{Session, TooLong};
 use crate::parse::Words;
 use plants::PlantChoice;
 use station::{Answer, Station};
 use std::io;
+use std::io::Write;
 
 // The station is made by the first line that says so.
 #[derive(Drop)]
@@ -37,19 +38,13 @@ impl Server {
 
     fn call(&mut self, name: &[u8], words: &mut Words<'_>) -> Result<Answer, Fault> {
         let call = read_call(name, words)?;
-        match &mut self.station {
-            Some(station) => Ok(station.apply(&call)),
-            None => Err(Fault::NoStation),
-        }
+        let station = self.station.as_mut().ok_or(Fault::NoStation)?;
+        Ok(station.apply(&call))
     }
 
     // What a line is answered; nothing where it has no word.
-    fn answer(&mut self, line: Line<'_>) -> Result<Option<Answer>, Fault> {
-        let text = match line {
-            Line::Text(text) => text,
-            Line::TooLong => return Err(Fault::TooLong),
-        };
-        let mut words = Words::new(text);
+    fn answer(&mut self, line: Result<&[u8], TooLong>) -> Result<Option<Answer>, Fault> {
+        let mut words = Words::new(line?);
         match words.next_word() {
             None => Ok(None),
             Some(b"station") => Ok(Some(self.make(&mut words)?)),
@@ -59,13 +54,12 @@ impl Server {
 }
 
 impl Session for Server {
-    fn take(&mut self, line: Line<'_>, out: &mut Vec<u8>) -> io::Result<()> {
+    fn take(&mut self, line: Result<&[u8], TooLong>, out: &mut Vec<u8>) -> io::Result<()> {
         match self.answer(line) {
-            Ok(None) => {}
-            Ok(Some(answer)) => put_answer(&answer, out)?,
-            Err(fault) => put_error(fault, out)?,
+            Ok(None) => Ok(()),
+            Ok(Some(answer)) => Ok(put_answer(&answer, out)?),
+            Err(fault) => writeln!(out, "error {fault}"),
         }
-        Ok(())
     }
 
     fn end(&mut self, _out: &mut Vec<u8>) -> io::Result<()> {

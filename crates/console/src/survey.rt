@@ -1,7 +1,7 @@
 // The survey of one unit: which of its services are live, their effective trapeziums, and the figures of a row.
 use crate::fault::{Fault, Trouble};
 use crate::figures::{put_figures, put_limits};
-use crate::lines::{Line, Session};
+use crate::lines::{Session, TooLong};
 use crate::parse::Words;
 use crate::print::{ground_words, kind_words, refusal_words, service_name};
 use fcas::{CheckedBid, CheckedReading, Ground, Kind, Service, Trapezium};
@@ -86,12 +86,8 @@ impl Survey {
         Ok(())
     }
 
-    fn take_line(&mut self, line: Line<'_>) -> Result<(), Trouble> {
-        let text = match line {
-            Line::Text(text) => text,
-            Line::TooLong => return Err(Trouble::Unread(Fault::TooLong)),
-        };
-        let mut words = Words::new(text);
+    fn take_line(&mut self, line: Result<&[u8], TooLong>) -> Result<(), Trouble> {
+        let mut words = Words::new(line.map_err(Fault::from)?);
         match words.next_word() {
             None => Ok(()),
             Some(b"kind") => self.take_kind(&mut words),
@@ -211,15 +207,12 @@ fn put_survey(
 }
 
 impl Session for Survey {
-    fn take(&mut self, line: Line<'_>, out: &mut Vec<u8>) -> io::Result<()> {
+    fn take(&mut self, line: Result<&[u8], TooLong>, out: &mut Vec<u8>) -> io::Result<()> {
         self.line = self.line.saturating_add(1);
         let line_number = self.line;
         match self.take_line(line) {
             Ok(()) => Ok(()),
-            Err(Trouble::Unread(fault)) => {
-                let words = fault.words();
-                writeln!(out, "line {line_number}: error: {words}")
-            }
+            Err(Trouble::Unread(fault)) => writeln!(out, "line {line_number}: error: {fault}"),
             Err(Trouble::Refused(refusal)) => {
                 let number = refusal.number();
                 let words = refusal_words(refusal);

@@ -8,7 +8,7 @@ mod session_tests;
 #[cfg(test)]
 mod survey_tests;
 
-use anyhow::anyhow;
+use anyhow::{bail, ensure};
 use console::{Server, Survey, run};
 use std::env;
 
@@ -67,16 +67,12 @@ fn run_station(rt: &HostRuntime) -> anyhow::Result<()> {
 fn run_survey(rt: &HostRuntime, with_limits: bool) -> anyhow::Result<()> {
     let mut survey = Survey::new(with_limits);
     run(&mut survey, &mut rt.stdin(), &mut rt.stdout(), rt.alloc())?;
-    if survey.is_done() {
-        Ok(())
-    } else {
-        Err(anyhow!("no survey"))
-    }
+    ensure!(survey.is_done(), "no survey");
+    Ok(())
 }
 
 fn main(rt: HostRuntime) -> anyhow::Result<()> {
-    let mut words = env::args(&rt)?;
-    let _program = words.next();
+    let mut words = env::args(&rt)?.skip(1);
     let Some(word) = words.next() else {
         return run_station(&rt);
     };
@@ -89,7 +85,7 @@ fn main(rt: HostRuntime) -> anyhow::Result<()> {
                 "--limits" => run_survey(&rt, true),
                 _ => {
                     eprintln!(rt; "headroom: unknown option; try headroom --help")?;
-                    Err(anyhow!("unknown option"))
+                    bail!("unknown option")
                 }
             }
         }
@@ -99,7 +95,7 @@ fn main(rt: HostRuntime) -> anyhow::Result<()> {
         }
         _ => {
             eprintln!(rt; "headroom: unknown command; try headroom --help")?;
-            Err(anyhow!("unknown command"))
+            bail!("unknown command")
         }
     }
 }
