@@ -1,12 +1,13 @@
 // A cap on what flows through each unit's connection.
 ghost use Rattle.std.specs.Prelude.{◌≡◌, ◌+◌, ◌≤◌, ◌||◌, pos, negsuc, ◌+ℤ◌, ◌-ℤ◌, ◌≤ℤ◌, ◌==◌};
 ghost use Rattle.fcas.specs.Kind.{upward as upward_of};
+ghost use Rattle.fcas.specs.Service.{service_number};
 ghost use Rattle.limits.specs.Row.{amount as amount_of};
 ghost use Rattle.plants.specs.ConnectionCap.{cap_allows, cap_of_unit, delayed as delayed_of, flow as flow_of};
 ghost use Rattle.plants.specs.Flows.{cap_lowering};
 
 use crate::room::greatest;
-use fcas::Kind;
+use fcas::{Kind, Service};
 use limits::{PlantLimit, Row};
 
 // The caps of units 0 to 23, in kilowatts.
@@ -16,13 +17,12 @@ pub struct ConnectionCap {
 }
 
 // The delayed service that moves a unit's energy up.
-fn delayed(kind: Kind) -> u8
-    ensures value { result ≡ delayed_of kind }
-    ensures bound { result ≤ 9 }
+fn delayed(kind: Kind) -> Service
+    ensures { service_number result ≡ delayed_of kind }
 {
     match kind {
-        Kind::Load => 8,
-        _ => 3,
+        Kind::Load => Service::Lower5Min,
+        _ => Service::Raise5Min,
     }
 }
 
@@ -32,8 +32,8 @@ fn flow(row: &Row) -> i64
     ensures low { negsuc 2147483647 ≤ℤ result }
     ensures high { result ≤ℤ pos 12884901888 }
 {
-    let upward = row.kind.upward().number;
-    let delayed = delayed(row.kind);
+    let upward = row.kind.upward().number();
+    let delayed = delayed(row.kind).number();
     let amounts = &row.amounts;
     i64::from(row.energy)
         + (i64::from(amounts[usize::from(upward)]) + i64::from(amounts[usize::from(delayed)]))
@@ -43,7 +43,7 @@ fn flow(row: &Row) -> i64
 fn adds(row: &Row, service: u8) -> bool
     ensures { result ≡ (service == upward_of row.now.kind || service == delayed_of row.now.kind) }
 {
-    (service == row.kind.upward().number) | (service == delayed(row.kind))
+    (service == row.kind.upward().number()) | (service == delayed(row.kind).number())
 }
 
 impl ConnectionCap {
