@@ -39,117 +39,61 @@ fn places(words: &mut Words<'_>) -> Result<u64, Fault> {
     }
 }
 
-fn enrol(words: &mut Words<'_>) -> Result<Call, Fault> {
-    Ok(Call::Enrol {
-        unit: words.number()?,
-        kind: words.kind()?,
-    })
-}
-
-fn retire(words: &mut Words<'_>) -> Result<Call, Fault> {
-    Ok(Call::Retire {
-        unit: words.number()?,
-    })
-}
-
-fn bid(words: &mut Words<'_>) -> Result<Call, Fault> {
-    Ok(Call::Bid {
-        unit: words.number()?,
-        service: words.service()?,
-        bid: words.bid()?,
-    })
-}
-
-fn withdraw(words: &mut Words<'_>) -> Result<Call, Fault> {
-    Ok(Call::Withdraw {
-        unit: words.number()?,
-        service: words.service()?,
-    })
-}
-
-fn open_interval(words: &mut Words<'_>) -> Result<Call, Fault> {
-    Ok(Call::Open {
-        unit: words.number()?,
-        reading: words.reading()?,
-    })
-}
-
-fn energy(words: &mut Words<'_>) -> Result<Call, Fault> {
-    Ok(Call::Energy {
-        pass: pass(words)?,
-        energy: words.number()?,
-    })
-}
-
-fn amount(words: &mut Words<'_>) -> Result<Call, Fault> {
-    Ok(Call::Amount {
-        pass: pass(words)?,
-        service: words.service()?,
-        amount: words.number()?,
-    })
-}
-
-fn figure(words: &mut Words<'_>) -> Result<Call, Fault> {
-    Ok(Call::Figure {
-        pass: pass(words)?,
-        service: words.service()?,
-    })
-}
-
-fn probe(words: &mut Words<'_>) -> Result<Call, Fault> {
-    Ok(Call::Probe {
-        pass: pass(words)?,
-        service: words.service()?,
-        energy: words.number()?,
-    })
-}
-
-fn trapezium(words: &mut Words<'_>) -> Result<Call, Fault> {
-    Ok(Call::Trapezium {
-        pass: pass(words)?,
-        service: words.service()?,
-    })
-}
-
-fn close(words: &mut Words<'_>) -> Result<Call, Fault> {
-    Ok(Call::Close {
-        pass: pass(words)?,
-        places: places(words)?,
-    })
-}
-
-fn abandon(words: &mut Words<'_>) -> Result<Call, Fault> {
-    Ok(Call::Abandon { pass: pass(words)? })
-}
-
-fn lapse(words: &mut Words<'_>) -> Result<Call, Fault> {
-    Ok(Call::Lapse {
-        unit: words.number()?,
-    })
-}
-
-fn front_of_call(name: &[u8], words: &mut Words<'_>) -> Result<Call, Fault> {
-    match name {
-        b"enrol" => enrol(words),
-        b"retire" => retire(words),
-        b"bid" => bid(words),
-        b"withdraw" => withdraw(words),
-        b"open" => open_interval(words),
-        b"energy" => energy(words),
-        b"amount" => amount(words),
-        b"figure" => figure(words),
-        b"probe" => probe(words),
-        b"trapezium" => trapezium(words),
-        b"close" => close(words),
-        b"abandon" => abandon(words),
-        b"lapse" => lapse(words),
-        _ => Err(Fault::UnknownCommand),
-    }
-}
-
 // The call of a name and the words that follow it, all of which have to be used.
 pub(crate) fn read_call(name: &[u8], words: &mut Words<'_>) -> Result<Call, Fault> {
-    let call = front_of_call(name, words)?;
+    let call = match name {
+        b"enrol" => Call::Enrol {
+            unit: words.number()?,
+            kind: words.kind()?,
+        },
+        b"retire" => Call::Retire {
+            unit: words.number()?,
+        },
+        b"bid" => Call::Bid {
+            unit: words.number()?,
+            service: words.service()?,
+            bid: words.bid()?,
+        },
+        b"withdraw" => Call::Withdraw {
+            unit: words.number()?,
+            service: words.service()?,
+        },
+        b"open" => Call::Open {
+            unit: words.number()?,
+            reading: words.reading()?,
+        },
+        b"energy" => Call::Energy {
+            pass: pass(words)?,
+            energy: words.number()?,
+        },
+        b"amount" => Call::Amount {
+            pass: pass(words)?,
+            service: words.service()?,
+            amount: words.number()?,
+        },
+        b"figure" => Call::Figure {
+            pass: pass(words)?,
+            service: words.service()?,
+        },
+        b"probe" => Call::Probe {
+            pass: pass(words)?,
+            service: words.service()?,
+            energy: words.number()?,
+        },
+        b"trapezium" => Call::Trapezium {
+            pass: pass(words)?,
+            service: words.service()?,
+        },
+        b"close" => Call::Close {
+            pass: pass(words)?,
+            places: places(words)?,
+        },
+        b"abandon" => Call::Abandon { pass: pass(words)? },
+        b"lapse" => Call::Lapse {
+            unit: words.number()?,
+        },
+        _ => return Err(Fault::UnknownCommand),
+    };
     words.end()?;
     Ok(call)
 }

@@ -6,8 +6,8 @@ use thiserror::Error;
 // The line cannot be read.
 #[derive(Clone, Copy, Debug, Error)]
 pub enum Fault {
-    #[error("the line is too long")]
-    TooLong,
+    #[error(transparent)]
+    TooLong(#[from] TooLong),
     #[error("the first word is unknown")]
     UnknownCommand,
     #[error("there are too few words")]
@@ -34,12 +34,6 @@ pub enum Fault {
     NoStation,
     #[error("there is a station already")]
     SecondStation,
-}
-
-impl From<TooLong> for Fault {
-    fn from(_: TooLong) -> Fault {
-        Fault::TooLong
-    }
 }
 
 // The line cannot be read, or what it hands over is refused.

@@ -1,9 +1,10 @@
 // Lines of bytes, read in chunks and handed to a session one by one. Memory does not grow with the input.
-ghost use Rattle.std.specs.Prelude.{◌≤◌, vec_len, IfOk};
+ghost use Rattle.std.specs.Prelude.{◌≤◌, vec_len};
 
 use std::alloc::{AllocError, Global};
 use std::io;
 use std::io::{ErrorKind, Read, Write};
+use thiserror::Error;
 
 const CHUNK: usize = 65536;
 
@@ -11,7 +12,8 @@ const CHUNK: usize = 65536;
 const LONGEST: usize = 65536;
 
 // What is handed on in place of a line that is longer.
-#[derive(Clone, Copy, Debug)]
+#[derive(Clone, Copy, Debug, Error)]
+#[error("the line is too long")]
 pub struct TooLong;
 
 // What answers lines: each line in turn, and then the end of the input.
@@ -136,17 +138,15 @@ fn take_chunk<S: Session>(
     Ok(())
 }
 
-// One read, made again where a signal interrupts it.
-fn read_chunk<R: Read>(input: &mut R, chunk: &mut [u8; CHUNK]) -> io::Result<usize>
-    ensures { IfOk result (λ n. n ≤ 65536) }
-{
+// What one read gives, made again where a signal interrupts it.
+fn read_chunk<'a, R: Read>(input: &mut R, buffer: &'a mut [u8]) -> io::Result<&'a [u8]> {
     for _ in 0..u64::MAX {
-        match input.read(chunk) {
+        match input.read(buffer) {
             Err(e) if e.kind() == ErrorKind::Interrupted => {}
-            read => return read,
+            read => return read.map(|n| &buffer[..n]),
         }
     }
-    Ok(0)
+    Ok(&[])
 }
 
 fn send<W: Write>(out: &mut Vec<u8>, to: &mut W) -> io::Result<()> {
@@ -162,15 +162,15 @@ pub fn run<S: Session, R: Read, W: Write>(
     to: &mut W,
     heap: Global,
 ) -> io::Result<()> {
-    let mut chunk = [0u8; CHUNK];
+    let mut buffer = [0u8; CHUNK];
     let mut partial = Partial::new(heap)?;
     let mut out = Vec::with_capacity(heap, CHUNK)?;
     for _ in 0..u64::MAX {
-        let n = read_chunk(input, &mut chunk)?;
-        if n == 0 {
+        let chunk = read_chunk(input, &mut buffer)?;
+        if chunk.is_empty() {
             break;
         }
-        take_chunk(session, &mut partial, &chunk[..n], &mut out)?;
+        take_chunk(session, &mut partial, chunk, &mut out)?;
         send(&mut out, to)?;
     }
     if partial.stage != Stage::NotBegun {
