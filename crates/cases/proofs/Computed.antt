@@ -1,5 +1,5 @@
 -- The worked cases, by computation.
-use Rattle.std.proofs.Common.{◌≡◌, ℕ, Bool, true, cond, not, Some, None, Ok, Result, refl, ap, ◌∙◌, subst, arith}
+use Rattle.std.proofs.Common.{◌≡◌, ℕ, Bool, true, cond, not, Some, None, Ok, Result, refl, ap, ◌∙◌, subst}
 use lib.Ieee.{of_bits, mul, le, to_signed}
 use Rattle.std.specs.Float.{round_with}
 use Rattle.fcas.specs.Bid.{bid_faults}
@@ -26,8 +26,7 @@ in_range_lem = refl
 pub generator_taken : (r : Reading) (n : ℕ) → r ≡ generator → first_of (reading_faults r) ≡ Some n → ⊥
 generator_taken r n e h =
     let refused : None ≡ Some n = subst (λ (b : Bool). cond (not b) (Some 6) None ≡ Some n) (ap in_range e ∙ in_range_lem) h in
-    let clash : ◌≡◌ {A = ℕ} 0 1 = cc in
-    omega arith
+    cc
 
 -- a good bid has its trapezium
 pub trapezium_known : (service s : ℕ) (bid b : Bid) (t : Trapezium) (r : Result Trapezium Refusal) → service ≡ s → bid ≡ b → first_of (bid_faults b) ≡ None → trapezium_of Generator s b (measured_of generator) ≡ t

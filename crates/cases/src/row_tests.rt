@@ -59,10 +59,16 @@ fn reading(initial: f64, ramp_up: Option<f64>, ramp_down: Option<f64>) -> Readin
     }
 }
 
+fn generator_reading(ramp_up: Option<f64>, ramp_down: Option<f64>) -> Reading {
+    Reading {
+        agc_lower: Some(280.0),
+        agc_upper: Some(670.0),
+        ..reading(450.0, ramp_up, ramp_down)
+    }
+}
+
 fn generator_terms() -> Result<CheckedTerms, Refusal> {
-    let mut reading = reading(450.0, Some(3.0), Some(2.0));
-    reading.agc_lower = Some(280.0);
-    reading.agc_upper = Some(670.0);
+    let reading = generator_reading(Some(3.0), Some(2.0));
     let mut bids = NO_BIDS;
     bids[3] = bid(290_000, 300_000, 624_000, 690_000, 66_000)?;
     bids[4] = bid(300_000, 300_000, 590_000, 680_000, 100_000)?;
@@ -73,9 +79,7 @@ fn generator_terms() -> Result<CheckedTerms, Refusal> {
 
 // The generator with raise regulation alone, and no ramps.
 fn regulating_terms() -> Result<CheckedTerms, Refusal> {
-    let mut reading = reading(450.0, None, None);
-    reading.agc_lower = Some(280.0);
-    reading.agc_upper = Some(670.0);
+    let reading = generator_reading(None, None);
     let mut bids = NO_BIDS;
     bids[4] = bid(300_000, 300_000, 590_000, 680_000, 100_000)?;
     Ok(CheckedTerms::new(Kind::Generator, &bids, &CheckedReading::new(&reading)?))
@@ -101,6 +105,15 @@ fn row(kind: Kind, energy: i32, amounts: [u32; 10]) -> Result<CheckedRow, Refusa
     })
 }
 
+// The worked row, with both raise and both lower services.
+fn generator_row() -> Result<CheckedRow, Refusal> {
+    row(
+        Kind::Generator,
+        455_000,
+        [0, 0, 0, 50_000, 10_000, 0, 0, 0, 50_000, 10_000],
+    )
+}
+
 // Figure, ground and by as one number of each; 9,999,999 where there is none.
 fn told(figure: Option<Figure>) -> (u32, u8, u8) {
     match figure {
@@ -119,10 +132,7 @@ fn probed<P: PlantLimit>(
 }
 
 fn in_table(table: &Option<[Figure; 10]>, service: usize) -> (u32, u8, u8) {
-    match table {
-        Some(table) => told(table.get(service).copied()),
-        None => (9_999_999, 0, 0),
-    }
+    told(table.and_then(|table| table.get(service).copied()))
 }
 
 // The ground and by of the first broken limit; 0 and 0 where none is.
@@ -133,17 +143,13 @@ fn broken<P: PlantLimit>(terms: &CheckedTerms, row: &CheckedRow, plant: &P) -> (
     }
 }
 
-fn refused(_refusal: Refusal) -> Fail {
+pub(crate) fn refused(_refusal: Refusal) -> Fail {
     Fail::new("refused")
 }
 
 fn generator_figures() -> Result<[(u32, u8, u8); 6], Refusal> {
     let terms = generator_terms()?;
-    let row = row(
-        Kind::Generator,
-        455_000,
-        [0, 0, 0, 50_000, 10_000, 0, 0, 0, 50_000, 10_000],
-    )?;
+    let row = generator_row()?;
     let table = figures(&terms, &row, &Bare);
     Ok([
         in_table(&table, 3),
@@ -157,10 +163,7 @@ fn generator_figures() -> Result<[(u32, u8, u8); 6], Refusal> {
 
 #[test]
 fn generator(rt: HostRuntime) -> Result<(), Fail> {
-    let told = match generator_figures() {
-        Ok(told) => told,
-        Err(refusal) => return Err(refused(refusal)),
-    };
+    let told = generator_figures().map_err(refused)?;
     assert_eq!(rt; told[0], (66_000, 1, 3));
     assert_eq!(rt; told[1], (10_000, 6, 4));
     assert_eq!(rt; told[2], (76_000, 1, 8));
@@ -176,11 +179,7 @@ fn shared_figures() -> Result<[(u32, u8, u8); 4], Refusal> {
         lower: 70_000,
     };
     let terms = generator_terms()?;
-    let row = row(
-        Kind::Generator,
-        455_000,
-        [0, 0, 0, 50_000, 10_000, 0, 0, 0, 50_000, 10_000],
-    )?;
+    let row = generator_row()?;
     let table = figures(&terms, &row, &share);
     Ok([
         in_table(&table, 3),
@@ -192,10 +191,7 @@ fn shared_figures() -> Result<[(u32, u8, u8); 4], Refusal> {
 
 #[test]
 fn governor_share(rt: HostRuntime) -> Result<(), Fail> {
-    let told = match shared_figures() {
-        Ok(told) => told,
-        Err(refusal) => return Err(refused(refusal)),
-    };
+    let told = shared_figures().map_err(refused)?;
     assert_eq!(rt; told[0], (60_000, 8, 10));
     assert_eq!(rt; told[1], (10_000, 6, 4));
     assert_eq!(rt; told[2], (60_000, 8, 10));
@@ -215,10 +211,7 @@ fn regulating_figures() -> Result<[(u32, u8, u8); 3], Refusal> {
 
 #[test]
 fn regulation_alone(rt: HostRuntime) -> Result<(), Fail> {
-    let told = match regulating_figures() {
-        Ok(told) => told,
-        Err(refusal) => return Err(refused(refusal)),
-    };
+    let told = regulating_figures().map_err(refused)?;
     assert_eq!(rt; told[0], (77_777, 2, 4));
     assert_eq!(rt; told[1], (0, 2, 4));
     assert_eq!(rt; told[2], (9_999_999, 0, 0), "not even 0 is borne");
@@ -232,10 +225,7 @@ fn load_figure() -> Result<(u32, u8, u8), Refusal> {
 
 #[test]
 fn load(rt: HostRuntime) -> Result<(), Fail> {
-    let told = match load_figure() {
-        Ok(told) => told,
-        Err(refusal) => return Err(refused(refusal)),
-    };
+    let told = load_figure().map_err(refused)?;
     assert_eq!(rt; told, (5_000, 7, 4));
     Ok(())
 }
@@ -263,10 +253,7 @@ fn broken_rows() -> Result<[(u8, u8); 6], Refusal> {
 
 #[test]
 fn first_broken_limit(rt: HostRuntime) -> Result<(), Fail> {
-    let told = match broken_rows() {
-        Ok(told) => told,
-        Err(refusal) => return Err(refused(refusal)),
-    };
+    let told = broken_rows().map_err(refused)?;
     assert_eq!(rt; told[0], (0, 0));
     assert_eq!(rt; told[1], (6, 4));
     assert_eq!(rt; told[2], (0, 0));

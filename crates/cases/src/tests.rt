@@ -1,4 +1,5 @@
 // Readings and bids at the edges of the rules.
+use crate::row_tests::refused;
 use fcas::{Bid, CheckedBid, CheckedReading, Ground, Kind, Reading, Refusal, Service, Trapezium};
 use std::test::Fail;
 
@@ -43,15 +44,25 @@ fn bid(availability: u32) -> Bid {
     }
 }
 
+// What the checks make of a service, a bid and a reading.
+fn checked(
+    service: u32,
+    availability: u32,
+    reading: &Reading,
+) -> Result<(Service, CheckedBid, CheckedReading), Refusal> {
+    let reading = CheckedReading::new(reading)?;
+    let bid = CheckedBid::new(bid(availability))?;
+    Ok((Service::from_number(service)?, bid, reading))
+}
+
 fn trapezium(
     kind: Kind,
     service: u32,
     availability: u32,
     reading: &Reading,
 ) -> Result<Trapezium, Refusal> {
-    let reading = CheckedReading::new(reading)?;
-    let bid = CheckedBid::new(bid(availability))?;
-    Ok(Trapezium::new(kind, Service::from_number(service)?, &bid, &reading))
+    let (service, bid, reading) = checked(service, availability, reading)?;
+    Ok(Trapezium::new(kind, service, &bid, &reading))
 }
 
 // The number of the ground against a service, 0 where it is live, and that of the refusal where something is refused.
@@ -69,9 +80,8 @@ fn find_ground(
     availability: u32,
     reading: &Reading,
 ) -> Result<Option<Ground>, Refusal> {
-    let reading = CheckedReading::new(reading)?;
-    let bid = CheckedBid::new(bid(availability))?;
-    Ok(Ground::against(kind, Service::from_number(service)?, Some(&bid), &reading))
+    let (service, bid, reading) = checked(service, availability, reading)?;
+    Ok(Ground::against(kind, service, Some(&bid), &reading))
 }
 
 #[test]
@@ -107,20 +117,14 @@ fn zero_limits(rt: HostRuntime) -> Result<(), Fail> {
     reading.agc_upper = Some(0.0);
     reading.ramp_up = Some(0.0);
     reading.uigf = Some(0.0);
-    let generator = match trapezium(Kind::Generator, 4, 10_000, &reading) {
-        Ok(trapezium) => trapezium,
-        Err(_) => return Err(Fail::new("refused")),
-    };
+    let generator = trapezium(Kind::Generator, 4, 10_000, &reading).map_err(refused)?;
     assert_eq!(rt;
         generator.enablement_max,
         100_000,
         "an AGC limit of 0 is none, and a generator has no forecast"
     );
     assert_eq!(rt; generator.max_availability, 10_000, "a ramp of 0 is none");
-    let wind_farm = match trapezium(Kind::SemiScheduled, 4, 10_000, &reading) {
-        Ok(trapezium) => trapezium,
-        Err(_) => return Err(Fail::new("refused")),
-    };
+    let wind_farm = trapezium(Kind::SemiScheduled, 4, 10_000, &reading).map_err(refused)?;
     assert_eq!(rt; wind_farm.enablement_max, 0, "a forecast of 0 counts");
     assert_eq!(rt;
         wind_farm.high_breakpoint,
@@ -132,10 +136,7 @@ fn zero_limits(rt: HostRuntime) -> Result<(), Fail> {
 
 #[test]
 fn no_availability(rt: HostRuntime) -> Result<(), Fail> {
-    let trapezium = match trapezium(Kind::Generator, 1, 0, &at(50.0)) {
-        Ok(trapezium) => trapezium,
-        Err(_) => return Err(Fail::new("refused")),
-    };
+    let trapezium = trapezium(Kind::Generator, 1, 0, &at(50.0)).map_err(refused)?;
     assert_eq!(rt; trapezium.low_breakpoint, 20_000);
     assert_eq!(rt; trapezium.high_breakpoint, 100_000);
     assert_eq!(rt; ground(Kind::Generator, 1, 0, &at(50.0)), 12);

@@ -1,7 +1,7 @@
 -- Digits read one after another.
 use Rattle.std.proofs.Common.{◌≡◌, ℕ, ◌+◌, ◌-◌, ◌*◌, ◌^◌, ◌<◌, ◌≤◌, Bool, true, false, cond, ltb, List, [], ◌∷◌, length, get_or, drop, Some, None, Option, sym, refl, ap, ◌∙◌, arith}
 use Rattle.std.proofs.lemmas.List.{drop_all, drop_more}
-use Rattle.std.proofs.lemmas.Bool.{cond-true, cond-false, le-ltb, lt-ltb, ltb-false, ltb-true}
+use Rattle.std.proofs.lemmas.Bool.{cond-true, cond-false, le-ltb, lt-ltb}
 use Rattle.std.specs.Char.{is_ascii_digit}
 use Rattle.std.proofs.lemmas.Bool.Decides.{nat_tests}
 use Rattle.numerals.specs.Numerals.{in_word, is_digit, spelled_from, whole_of}
@@ -32,19 +32,14 @@ too_large : (n : ℕ) (word : List ℕ) → 2 ^ 64 ≤ n → in_word (spelled_fr
 too_large n [] l = cond-false (ltb n (2 ^ 64)) (Some n) None (le-ltb n (2 ^ 64) l)
 too_large n (byte ∷ bytes) l = next_large (is_digit byte) (spelled_from (more n byte) bytes) (too_large (more n byte) bytes (omega (arith, l)))
 
-is_large : (m : ℕ) (b : Bool) → ltb m (2 ^ 64) ≡ b → None ≡ cond b (Some m) None → 2 ^ 64 ≤ m
-is_large m true e h = let z : ◌≡◌ {A = ℕ} 0 1 = cc in absurd (omega (arith, z))
-is_large m false e h = ltb-false m (2 ^ 64) e
+is_large : (m : ℕ) → None ≡ in_word (Some m) → 2 ^ 64 ≤ m
+is_large m h = grind (arith, nat_tests)
 
 pub overflow : (n i : ℕ) (word : List ℕ) → i < length word → true ≡ is_ascii_digit (get_or word i 0) → spelled_from 0 word ≡ spelled_from n (drop i word) → None ≡ in_word (Some (more n (get_or word i 0))) → None ≡ whole_of word
-overflow n i word l d e h = sym (ap in_word (digit n i word l d e) ∙ too_large (more n (get_or word i 0)) (drop (i + 1) word) (is_large (more n (get_or word i 0)) (ltb (more n (get_or word i 0)) (2 ^ 64)) refl h))
-
-is_small : (m k : ℕ) (b : Bool) → ltb m (2 ^ 64) ≡ b → Some k ≡ cond b (Some m) None → (k ≡ m) × (k < 2 ^ 64)
-is_small m k true e h = let f : k ≡ m = cc in (f, omega (arith, f, ltb-true m (2 ^ 64) e))
-is_small m k false e h = let z : ◌≡◌ {A = ℕ} 0 1 = cc in absurd (omega (arith, z))
+overflow n i word l d e h = sym (ap in_word (digit n i word l d e) ∙ too_large (more n (get_or word i 0)) (drop (i + 1) word) (is_large (more n (get_or word i 0)) h))
 
 pub fits : (m k : ℕ) → Some k ≡ in_word (Some m) → (k ≡ m) × (k < 2 ^ 64)
-fits m k h = is_small m k (ltb m (2 ^ 64)) refl h
+fits m k h = grind (arith, nat_tests)
 
 pub whole_is : (n i : ℕ) (word : List ℕ) → length word ≤ i → n < 2 ^ 64 → spelled_from 0 word ≡ spelled_from n (drop i word) → Some n ≡ whole_of word
 whole_is n i word l m e = sym (ap in_word (e ∙ ap (spelled_from n) (drop_all i word l)) ∙ cond-true (ltb n (2 ^ 64)) (Some n) None (lt-ltb n (2 ^ 64) m))
