@@ -12,6 +12,7 @@ use crate::terms::CheckedTerms;
 use fcas::{Kind, Service};
 
 // How much of a service can be given, and the limit that holds it down, by its ground and the service that it is named by.
+// The ground and the service are the record's numbers as the rules write them, which a host stores and reads.
 #[derive(Clone, Copy, Debug, PartialEq, Eq, Default)]
 pub struct Figure {
     pub figure: u32,
@@ -103,6 +104,7 @@ pub fn figures<P: PlantLimit>(
         return None;
     }
     let mut table = [Figure::default(); 10];
+    // A loop: the closure of array::from_fn would have to repeat what settle requires.
     for number in 0..10u8 {
         table[number as usize] = settle(
             terms,
