@@ -2,8 +2,9 @@
 use Rattle.std.proofs.Common.{◌≡◌, ℕ, ◌<◌, ◌≤◌, Bool, true, false, length, Some, None, Option, sym, refl, ap, ◌∙◌, subst, ⊎_elim, arith}
 use Rattle.std.proofs.lemmas.List.{get_or_past}
 use Rattle.std.proofs.lemmas.Bool.{cases_lt, both_ways, not_from_false, not_from_true}
+use Rattle.std.specs.Option.{option_or}
 use Rattle.limits.specs.Limit.{Finds, FindsBefore, First, breaks, exceeded, offer_at, place, sides_of, while_live}
-use Rattle.limits.specs.Narrowing.{Below, earlier_of, first_of_row}
+use Rattle.limits.specs.Narrowing.{Below, first_of_row}
 use Rattle.limits.specs.Terms.{no_offer}
 use Rattle.limits.specs.declared.limit.Limit.{Limit}
 use Rattle.limits.specs.declared.limit.Limit.TheVariants.{Availability, Upper, Lower, RampUp, RampDown, Plant}
@@ -87,6 +88,6 @@ module _ (terms : Terms) (row : Row) (ten : length terms.offers ≡ 10) where
     first_of_row_lem false false true below e f g = borne (before_plant (before_ramp_down below (sym e)) (sym f)) (sym g)
     first_of_row_lem false false false below e f g = record { here = not_from_false _ (sym g); before = before_plant (before_ramp_down below (sym e)) (sym f) }
 
-    pub first_of_all : (services : Option Limit) (u d p : Bool) → FindsBefore 30 (λ limit. exceeded (sides_of terms row limit)) services → u ≡ exceeded (sides_of terms row RampUp) → d ≡ exceeded (sides_of terms row RampDown) → p ≡ allowed row → Finds (breaks allowed terms row) (earlier_of services (first_of_row u d p))
+    pub first_of_all : (services : Option Limit) (u d p : Bool) → FindsBefore 30 (λ limit. exceeded (sides_of terms row limit)) services → u ≡ exceeded (sides_of terms row RampUp) → d ≡ exceeded (sides_of terms row RampDown) → p ≡ allowed row → Finds (breaks allowed terms row) (option_or services (first_of_row u d p))
     first_of_all None u d p h e f g = first_of_row_lem u d p h e f g
     first_of_all (Some limit) u d p h e f g = first_breaks limit h

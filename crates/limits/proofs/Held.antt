@@ -7,12 +7,9 @@ use Rattle.limits.specs.declared.limit.Limit.{Limit}
 use Rattle.limits.specs.declared.limit.Limit.TheVariants.{RampUp, RampDown}
 use Rattle.limits.specs.declared.narrowing.Best.{Best}
 use Rattle.limits.proofs.Caps.{UptoIf}
-use Rattle.limits.proofs.Orders.{TenOnly, place_of, below_none, below_more, after_services, after_ramp_up}
+use Rattle.limits.proofs.Orders.{TenOnly, place_of, below_more, after_services, after_ramp_up}
 
 module _ (f : ℕ → Limit → Bool) where
-  pub held_none : (limit : Limit) → Held f 0 (record { most = 4000001; limit = limit })
-  held_none limit = record { within = omega arith; low = λ a l. below_none (f a); high = λ a l m. absurd (omega (arith, l, m)); before = λ l. absurd (omega (arith, l)) }
-
   -- one limit more
   held_step : (n m : ℕ) (limit : Limit) (best : Best) (cap : Option ℕ) → place limit ≡ n → ((a : ℕ) → Below (f a) n → f a limit ≡ false → Below (f a) m) → Held f n best → UptoIf (λ a. f a limit) cap → Held f m (narrowed_to best cap limit)
   held_step n m limit best None e more h u = record {

@@ -1,5 +1,5 @@
 -- At most two services take from the room of a limit.
-use Rattle.std.proofs.Common.{◌≡◌, ℕ, ◌<◌, Bool, true, false, cond, eqb, List, get_or, Some, None, Option, sym, refl, ap, ◌∙◌, subst, ⊎_elim, arith}
+use Rattle.std.proofs.Common.{◌≡◌, ℕ, ◌<◌, Bool, true, false, cond, eqb, List, get_or, Some, None, Option, sym, refl, ap, ◌∙◌, subst, ⊎_elim}
 use Rattle.std.proofs.lemmas.Bool.{cases_eq, cond-true, cond-false, eq-eqb, ne_eqb, both_ways}
 use Rattle.fcas.specs.Kind.{upward, downward}
 use Rattle.fcas.specs.Service.{regulating}
@@ -35,10 +35,6 @@ takes_none : (own t : ℕ) (r : Bool) (s run whole : ℕ) → eqb s own ≡ fals
 takes_none own t true s run whole e f = cond-false (eqb s own) run _ e
 takes_none own t false s run whole e f = cond-false (eqb s own) run _ e ∙ cond-false (eqb s t) whole 0 (f refl)
 
-joint_at : (r : Bool) (t j : ℕ) → r ≡ false → (cond r None (Some t)) ≡ Some j → t ≡ j
-joint_at true t j e f = absurd (both_ways true e refl)
-joint_at false t j e f = cc
-
 module _ (terms : Terms) (s : ℕ) where
   pub others_take_none : (limit : Limit) (joint : Option ℕ) → joint_of terms.kind limit ≡ joint → (s ≡ limit_by terms.kind limit → ⊥) → ((j : ℕ) → joint ≡ Some j → s ≡ j → ⊥) → coefficient_of terms limit s ≡ 0
   others_take_none (Availability own) joint e ne nj = cond-false (eqb s own) 1 0 (ne_eqb s own ne)
@@ -50,23 +46,20 @@ module _ (terms : Terms) (s : ℕ) where
 
 -- the joint service is another than the limit's own
 pub joint_apart : (kind : Kind) (limit : Limit) (j : ℕ) → joint_of kind limit ≡ Some j → j ≡ limit_by kind limit → ⊥
-joint_apart kind (Availability own) j e f = absurd_some e
-  where
-    absurd_some : ◌≡◌ {A = Option ℕ} None (Some j) → ⊥
-    absurd_some h = let z : ◌≡◌ {A = ℕ} 0 1 = cc in omega arith
+joint_apart kind (Availability own) j e f = cc
 joint_apart kind (Upper own) j e f = go (regulating own) refl e
   where
     go : (r : Bool) → regulating own ≡ r → cond r None (Some (upward kind)) ≡ Some j → ⊥
-    go true p h = let z : ◌≡◌ {A = ℕ} 0 1 = cc in omega arith
+    go true p h = cc
     go false p h = let u : upward kind ≡ j = cc in apart own (upward kind) p (upward_regulates kind) (sym (u ∙ f))
 joint_apart kind (Lower own) j e f = go (regulating own) refl e
   where
     go : (r : Bool) → regulating own ≡ r → cond r None (Some (downward kind)) ≡ Some j → ⊥
-    go true p h = let z : ◌≡◌ {A = ℕ} 0 1 = cc in omega arith
+    go true p h = cc
     go false p h = let u : downward kind ≡ j = cc in apart own (downward kind) p (downward_regulates kind) (sym (u ∙ f))
-joint_apart kind RampUp j e f = let z : ◌≡◌ {A = ℕ} 0 1 = cc in omega arith
-joint_apart kind RampDown j e f = let z : ◌≡◌ {A = ℕ} 0 1 = cc in omega arith
-joint_apart kind Plant j e f = let z : ◌≡◌ {A = ℕ} 0 1 = cc in omega arith
+joint_apart kind RampUp j e f = cc
+joint_apart kind RampDown j e f = cc
+joint_apart kind Plant j e f = cc
 
 -- what takes nothing is not capped
 pub uncapped : (sides : Option Sides) (held c : ℕ) (best : Best) (limit : Limit) → c ≡ 0 → narrowed_to best (cap_by sides held c) limit ≡ best
@@ -97,11 +90,8 @@ module _ (terms : Terms) (limit : Limit) (sides : Option Sides) (held : ℕ → 
       ⊎_elim
       (λ (e : s ≡ own). is s l ∙ put_here before own s cap e k refl)
       (λ (ne : s ≡ own → ⊥). is s l ∙ put_elsewhere before own s cap ne
-      ∙ sym (uncapped sides (held s) _ _ limit (others_take_none terms s limit None j (λ e. ne (e ∙ sym o)) (λ i h _. none_some i h))))
+      ∙ sym (uncapped sides (held s) _ _ limit (others_take_none terms s limit None j (λ e. ne (e ∙ sym o)) (λ i h same. cc))))
       (cases_eq s own)
-    where
-      none_some : (i : ℕ) → ◌≡◌ {A = Option ℕ} None (Some i) → ⊥
-      none_some i h = let z : ◌≡◌ {A = ℕ} 0 1 = cc in omega arith
 
   pub two_narrowed : (own other : ℕ) (cap cap' : Option ℕ) (mid after : List Best) → own ≡ limit_by terms.kind limit → joint_of terms.kind limit ≡ Some other
       → cap ≡ cap_by sides (held own) (coefficient_of terms limit own) → cap' ≡ cap_by sides (held other) (coefficient_of terms limit other)

@@ -41,9 +41,6 @@ below_more f limits s i d these m h below here limit l =
     subst (λ (x : Limit). f x ≡ false) (sym (at_place limit s i d m h e ∙ ap (λ (xs : List Limit). get_or xs i d) (sym these))) here)
     (cases_lt (place limit) (3 * s + i))
 
-pub below_same : (f : Limit → Bool) (m n : ℕ) → m ≤ n → Below f n → Below f m
-below_same f m n h below limit l = below limit (omega arith)
-
 -- What is no service has no limit that breaks.
 pub record TenOnly (f : Limit → Bool) : Type 0 where
   pub availability : (s : ℕ) → 10 ≤ s → f (Availability s) ≡ false

@@ -12,13 +12,9 @@ use Rattle.limits.specs.declared.narrowing.Best.{Best}
 use Rattle.limits.specs.declared.row.Row.{Row}
 use Rattle.limits.specs.declared.terms.Terms.{Terms}
 
--- The first of the limits of the whole row, by whether each breaks; and the earlier of one of the services and one of the row.
+-- The first of the limits of the whole row, by whether each breaks.
 abbrev pub first_of_row : Bool → Bool → Bool → Option Limit
 first_of_row rises falls allows = cond rises (Some RampUp) (cond falls (Some RampDown) (cond allows None (Some Plant)))
-
-abbrev pub earlier_of : Option Limit → Option Limit → Option Limit
-earlier_of None of_row = of_row
-earlier_of (Some limit) of_row = Some limit
 
 -- What one kilowatt of a service takes from the room of a limit.
 abbrev pub coefficient_of : Terms → Limit → ℕ → ℕ

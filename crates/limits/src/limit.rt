@@ -2,7 +2,7 @@
 ghost use Rattle.std.specs.Prelude.{◌≡◌, ◌≤◌, Some, pos, ◌+ℤ◌, ◌-ℤ◌, ◌*ℤ◌};
 ghost use Rattle.limits.specs.Bounds.{Bounded, BoundedIf, Moved, Product};
 ghost use Rattle.fcas.specs.Service.{regulating};
-ghost use Rattle.limits.specs.Narrowing.{earlier_of, first_of_row};
+ghost use Rattle.limits.specs.Narrowing.{first_of_row};
 ghost use Rattle.limits.specs.Limit.{breaks, exceeded, Finds, FindsBefore, limit_by, limit_number, limits_of, lowered as lowered_energy, lower_sides, offer_at, raised as raised_energy, sides_of, upper_sides, while_live};
 
 use crate::plant::PlantLimit;
@@ -11,6 +11,7 @@ use crate::terms::{CheckedTerms, NO_OFFER, Offer};
 use fcas::{Kind, Power, Service};
 
 // A limit: three of each service, those of the two ramps, and the plant's.
+// A service is a plain number here: a Service would be a narrower type, and ask more of callers.
 #[derive(Clone, Copy, Debug, PartialEq, Eq)]
 pub enum Limit {
     Availability(u8),
@@ -270,6 +271,7 @@ impl CheckedTerms {
     }
 
     // The first limit of a service that breaks.
+    // Nested loops left by a label are the project's form of this search.
     fn first_of_services(&self, row: &CheckedRow) -> Option<Limit>
         ensures { FindsBefore 30 (λ limit. exceeded (sides_of self.now.terms row.now.row limit)) result }
     {
@@ -301,12 +303,6 @@ fn first_of_row(rise_breaks: bool, fall_breaks: bool, is_allowed: bool) -> Optio
     }
 }
 
-fn earlier(of_services: Option<Limit>, of_row: Option<Limit>) -> Option<Limit>
-    ensures { result ≡ earlier_of of_services of_row }
-{
-    of_services.or(of_row)
-}
-
 // Whether the plant allows a row.
 pub(crate) fn is_allowed<P: PlantLimit>(plant: &P, row: &CheckedRow) -> bool
     ensures { result ≡ P.PlantLimit.allowed plant.now row.now.row }
@@ -322,10 +318,11 @@ pub fn first_broken<P: PlantLimit>(
 ) -> Option<Limit>
     ensures value { Finds (breaks (P.PlantLimit.allowed plant.now) terms.now.terms row.now.row) result }
 {
-    let rise_breaks = terms.exceeds(row, Limit::RampUp);
-    let fall_breaks = terms.exceeds(row, Limit::RampDown);
-    earlier(
-        terms.first_of_services(row),
-        first_of_row(rise_breaks, fall_breaks, is_allowed(plant, row)),
-    )
+    let of_services = terms.first_of_services(row);
+    let of_row = first_of_row(
+        terms.exceeds(row, Limit::RampUp),
+        terms.exceeds(row, Limit::RampDown),
+        is_allowed(plant, row),
+    );
+    of_services.or(of_row)
 }
