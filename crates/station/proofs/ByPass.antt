@@ -1,5 +1,5 @@
 -- The calls that take a pass.
-use Rattle.std.proofs.Common.{◌≡◌, ℕ, zero, suc, ◌<◌, ◌≤◌, Bool, true, false, cond, not, ◌&&◌, ltb, List, [], ◌∷◌, ◌++◌, length, get_or, take, drop, set, is_some, IsErrAnd, Some, None, Ok, Err, Option, Result, sym, refl, ap, ◌∙◌, subst, arith, MatchResult}
+use Rattle.std.proofs.Common.{◌≡◌, ℕ, zero, suc, ◌<◌, ◌≤◌, Bool, true, false, cond, not, ◌&&◌, ltb, List, [], ◌∷◌, ◌++◌, length, get_or, take, drop, set, is_some, IsErrAnd, Some, None, Ok, Err, Option, Result, sym, refl, ap, ◌∙◌, subst, arith}
 use Rattle.std.proofs.lemmas.Bool.{le-ltb}
 use Rattle.std.specs.Option.{option_map}
 use Rattle.fcas.specs.Checks.{Finding, first_of}
@@ -12,12 +12,11 @@ use Rattle.station.specs.Book.{Bears, checks, energy_faults, pass_faults, passes
 use Rattle.station.specs.Entry.{BearsRow, Entry, FigureIn, ProbedIn, broken_at, broken_with, has_energy, is_live, is_open, kind_in, on_interval, trapezium_in, with_amount_of, with_energy, with_interval}
 use Rattle.station.specs.Lent.{Lent, Refuses, Tried, held_faults}
 use Rattle.states.specs.Refusal.{plain, told}
-use Rattle.station.specs.Turn.{Turn, closing, done, figured}
+use Rattle.station.specs.Turn.{Turn, done, figured}
 use Rattle.station.specs.View.{entry_of, view_of}
 use Rattle.station.specs.declared.call.Answer.{Answer}
 use Rattle.station.specs.declared.call.Answer.TheVariants.{Closed, Done, Probed, Returned, Figure as Figured, Trapezium as Scaled}
 use Rattle.station.specs.declared.call.Call.TheVariants.{Energy, Amount, Figure as FigureCall, Probe, Trapezium as TrapeziumCall, Close, Abandon}
-use Rattle.station.specs.declared.pass.Pass.{Pass}
 use Rattle.station.specs.declared.pass.PassNumbers.{PassNumbers}
 use Rattle.states.specs.declared.refusal.Refusal.{Refusal}
 use Rattle.station.specs.declared.row.UnitRow.{UnitRow}
@@ -168,14 +167,6 @@ module _ {P : Type 0} (allowed : P → Row → Bool) (s : Station P) (pass : Pas
       (ap (option_map plain) (first_skip ((8, ltb places 10) ∷ []) (pass_faults (view_of s) pass ++ energy_faults (view_of s) pass) enough) ∙ refused_early (pass_faults (view_of s) pass) (energy_faults (view_of s) pass) refusal refuses)
 
 -- what `?` makes of a refused close
-pub closing_err : (pass : Pass) (table : List Figure) (r : Result (Unit {0}) Refusal) (refusal : Refusal) → IsErrAnd r (λ e. e ≡ refusal) → closing pass table r ≡ Returned refusal pass.numbers
-closing_err pass table (Ok x) refusal e = elim e [ ]
-closing_err pass table (Err y) refusal e = ap (λ (z : Refusal). Returned z pass.numbers) e
-
-pub err_case : {X : Type 0} (A B : Type 0) (refusal : Refusal) (r : Result X Refusal) → IsErrAnd r (λ e. e ≡ refusal) → B → MatchResult r (λ _. A) (λ _. B)
-err_case A B refusal (Ok x) e b = elim e [ ]
-err_case A B refusal (Err y) e b = b
-
 pub enough : (places : ℕ) → 10 ≤ places → first_of ((8, ltb places 10) ∷ []) ≡ None
 enough places l = rw (le-ltb places 10 l) refl
 

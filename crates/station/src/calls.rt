@@ -1,5 +1,5 @@
 // The thirteen calls.
-ghost use Rattle.std.specs.Prelude.{◌≡◌, ◌<◌, ◌≤◌, ◌++◌, length, drop, MatchResult, slice_index_or};
+ghost use Rattle.std.specs.Prelude.{◌≡◌, ◌<◌, ◌≤◌, ◌++◌, length, drop, MatchResult};
 ghost use Rattle.station.specs.Book.{pass_faults, unit_faults};
 ghost use Rattle.station.specs.Lent.{Asked};
 ghost use Rattle.station.specs.Turn.{closed_by, closing, done, figured, opened_by, probed_by, scaled, Turn};
@@ -21,13 +21,6 @@ fn check_unit(unit: u32) -> Result<(), Refusal>
         return Err(Refusal::UnitUnknown);
     }
     Ok(())
-}
-
-fn row_of(rows: &[UnitRow; 24], unit: u32) -> &UnitRow
-    requires { unit < length rows.now }
-    ensures { result.now ≡ slice_index_or rows.now unit result.now }
-{
-    &rows[unit as usize]
 }
 
 // The pass that opening gives.
@@ -58,17 +51,13 @@ impl<P: PlantLimit> Station<P> {
         ensures { Asked (pass_faults (view_of self.now) pass.now.numbers) (λ unit. (unit ≡ pass.now.numbers.unit) × (unit < length self.now.rows)) result }
     {
         let numbers = pass.numbers;
-        if numbers.station != u64::from(self.number) {
-            return Err(Refusal::PassUnknown);
+        if numbers.station == u64::from(self.number)
+            && numbers.unit < 24
+            && self.rows[numbers.unit as usize].is_under(numbers.serial)
+        {
+            return Ok(numbers.unit as u32);
         }
-        if numbers.unit > 23 {
-            return Err(Refusal::PassUnknown);
-        }
-        let row = &self.rows[numbers.unit as usize];
-        if !row.is_under(numbers.serial) {
-            return Err(Refusal::PassUnknown);
-        }
-        Ok(numbers.unit as u32)
+        Err(Refusal::PassUnknown)
     }
 
     pub fn enrol(&mut self, unit: u32, kind: u32) -> Result<(), Refusal>
@@ -76,16 +65,14 @@ impl<P: PlantLimit> Station<P> {
     {
         check_unit(unit)?;
         let kind = Kind::from_number(kind)?;
-        let row = &mut self.rows[unit as usize];
-        row.enrol(kind)
+        self.rows[unit as usize].enrol(kind)
     }
 
     pub fn retire(&mut self, unit: u32) -> Result<(), Refusal>
         ensures { Turn P.PlantLimit.allowed self.old (Retire unit) (done result) self.new }
     {
         check_unit(unit)?;
-        let row = &mut self.rows[unit as usize];
-        row.retire()
+        self.rows[unit as usize].retire()
     }
 
     pub fn bid(&mut self, unit: u32, service: u32, bid: &Bid) -> Result<(), Refusal>
@@ -94,8 +81,7 @@ impl<P: PlantLimit> Station<P> {
         check_unit(unit)?;
         let service = Service::from_number(service)?;
         let bid = CheckedBid::new(*bid)?;
-        let row = &mut self.rows[unit as usize];
-        row.bid(service, bid)
+        self.rows[unit as usize].bid(service, bid)
     }
 
     pub fn withdraw(&mut self, unit: u32, service: u32) -> Result<(), Refusal>
@@ -103,16 +89,14 @@ impl<P: PlantLimit> Station<P> {
     {
         check_unit(unit)?;
         let service = Service::from_number(service)?;
-        let row = &mut self.rows[unit as usize];
-        row.withdraw(service)
+        self.rows[unit as usize].withdraw(service)
     }
 
     pub fn lapse(&mut self, unit: u32) -> Result<(), Refusal>
         ensures { Turn P.PlantLimit.allowed self.old (Lapse unit) (done result) self.new }
     {
         check_unit(unit)?;
-        let row = &mut self.rows[unit as usize];
-        row.end()
+        self.rows[unit as usize].end()
     }
 
     pub fn open(&mut self, unit: u32, reading: &Reading) -> Result<Pass, Refusal>
@@ -121,8 +105,7 @@ impl<P: PlantLimit> Station<P> {
         check_unit(unit)?;
         let reading = CheckedReading::new(reading)?;
         let serial = self.next;
-        let row = &mut self.rows[unit as usize];
-        row.open(&reading, serial)?;
+        self.rows[unit as usize].open(&reading, serial)?;
         self.next = serial + 1;
         Ok(pass_of(self.number, unit, serial))
     }
@@ -133,8 +116,7 @@ impl<P: PlantLimit> Station<P> {
     {
         let energy = Power::new(energy)?;
         let unit = self.find(pass)?;
-        let row = &mut self.rows[unit as usize];
-        row.energy(unit, energy, &self.plant)
+        self.rows[unit as usize].energy(unit, energy, &self.plant)
     }
 
     pub fn amount(&mut self, pass: &Pass, service: u32, amount: u32) -> Result<(), Refusal>
@@ -144,8 +126,7 @@ impl<P: PlantLimit> Station<P> {
         let service = Service::from_number(service)?;
         let amount = Power::new(amount)?;
         let unit = self.find(pass)?;
-        let row = &mut self.rows[unit as usize];
-        row.amount(unit, service, amount, &self.plant)
+        self.rows[unit as usize].amount(unit, service, amount, &self.plant)
     }
 
     // The figure of a service at the energy that is held, live or not.
@@ -156,7 +137,7 @@ impl<P: PlantLimit> Station<P> {
     {
         let service = Service::from_number(service)?;
         let unit = self.find(pass)?;
-        let table = row_of(&self.rows, unit).figures(unit, &self.plant)?;
+        let table = self.rows[unit as usize].figures(unit, &self.plant)?;
         Ok(table[service.number as usize])
     }
 
@@ -169,7 +150,7 @@ impl<P: PlantLimit> Station<P> {
         let service = Service::from_number(service)?;
         let energy = Power::new(energy)?;
         let unit = self.find(pass)?;
-        Ok(row_of(&self.rows, unit).probe(unit, service, energy, &self.plant))
+        Ok(self.rows[unit as usize].probe(unit, service, energy, &self.plant))
     }
 
     // The five effective numbers of a service.
@@ -180,7 +161,7 @@ impl<P: PlantLimit> Station<P> {
     {
         let service = Service::from_number(service)?;
         let unit = self.find(pass)?;
-        Ok(row_of(&self.rows, unit).trapezium(service))
+        Ok(self.rows[unit as usize].trapezium(service))
     }
 
     // The interval ends. The pass is spent, known or not.
@@ -190,8 +171,7 @@ impl<P: PlantLimit> Station<P> {
         let found = self.find(&pass);
         let Pass { numbers: _ } = pass;
         let unit = found?;
-        let row = &mut self.rows[unit as usize];
-        row.end()
+        self.rows[unit as usize].end()
     }
 
     fn try_close(&mut self, pass: &Pass, table: &mut [Figure]) -> Result<(), Refusal>
@@ -202,8 +182,7 @@ impl<P: PlantLimit> Station<P> {
             return Err(Refusal::TableTooShort);
         }
         let unit = self.find(pass)?;
-        let row = &mut self.rows[unit as usize];
-        let figures = row.close(unit, &self.plant)?;
+        let figures = self.rows[unit as usize].close(unit, &self.plant)?;
         fill(table, &figures);
         Ok(())
     }

@@ -4,7 +4,7 @@ ghost use Rattle.std.specs.Prelude.{◌≡◌};
 use states::Refusal;
 
 // The three numbers of a pass.
-#[derive(Clone, Copy)]
+#[derive(Clone, Copy, Debug, PartialEq, Eq)]
 pub struct PassNumbers {
     pub station: u64,
     pub unit: u64,

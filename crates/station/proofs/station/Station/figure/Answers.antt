@@ -11,9 +11,9 @@ returns-in_err-unit g c = record {
 
 pub returns-in_err-table : goal.returns-in_err-table
 returns-in_err-table g c = record {
-  turn = figure_refused g.P.PlantLimit.allowed c.args.self.now c.args.pass.now.numbers c.in_ok-unit.unit c.in_ok-unit.ensures.1.0 c.row_of.result.now c.in_ok-unit.ensures.1.1 c.in_ok-unit.ensures.0
+  turn = figure_refused g.P.PlantLimit.allowed c.args.self.now c.args.pass.now.numbers c.in_ok-unit.unit c.in_ok-unit.ensures.1.0 c.index-self-unit.result c.in_ok-unit.ensures.1.1 c.in_ok-unit.ensures.0
       c.args.service c.from_residual-in_err-table.result c.in_err-table.field-0.0 c.in_ok-service.ensures.0 c.from_residual-in_err-table.ensures.1
-      (rw (sym c.row_of.ensures) c.in_err-table.ensures);
+      c.in_err-table.ensures;
   station_kept = refl;
   pass_kept = refl;
 }
@@ -21,9 +21,9 @@ returns-in_err-table g c = record {
 pub returns : goal.returns
 returns g c = record {
   turn = rw (sym c.in_ok-service.ensures.1)
-      (figure_turn g.P.PlantLimit.allowed c.args.self.now c.args.pass.now.numbers c.in_ok-unit.unit c.in_ok-unit.ensures.1.0 c.row_of.result.now c.in_ok-unit.ensures.1.1 c.in_ok-unit.ensures.0
+      (figure_turn g.P.PlantLimit.allowed c.args.self.now c.args.pass.now.numbers c.in_ok-unit.unit c.in_ok-unit.ensures.1.0 c.index-self-unit.result c.in_ok-unit.ensures.1.1 c.in_ok-unit.ensures.0
       c.in_ok-service.service.number _ (rw c.in_ok-service.ensures.1 c.in_ok-service.ensures.0)
-      (rw (sym c.row_of.ensures) (λ bears. ((c.in_ok-table.ensures bears).0, (c.in_ok-table.ensures bears).1 c.in_ok-service.service.number c.in_ok-service.service.one_of_ten))));
+      (λ bears. ((c.in_ok-table.ensures bears).0, (c.in_ok-table.ensures bears).1 c.in_ok-service.service.number c.in_ok-service.service.one_of_ten)));
   station_kept = refl;
   pass_kept = refl;
 }

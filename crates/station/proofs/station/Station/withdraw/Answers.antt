@@ -1,13 +1,11 @@
-use Rattle.std.proofs.Common.{◌≡◌, ℕ, ◌<◌, not, [], ◌∷◌, ◌++◌, length, set, is_some, None, sym, refl, ◌∙◌, subst, rules}
+use Rattle.std.proofs.Common.{◌<◌, not, [], ◌∷◌, ◌++◌, length, is_some, None, sym, refl, ◌∙◌, rules}
 use Rattle.std.specs.Option.{option_map}
-use Rattle.fcas.specs.Checks.{first_of}
 use Rattle.fcas.specs.Service.{service_faults}
 use Rattle.station.specs.Book.{unit_faults}
 use Rattle.station.specs.Entry.{bid_of, idle_faults, with_bid}
-use Rattle.station.specs.Turn.{Turn, done}
 use Rattle.station.specs.declared.call.Call.TheVariants.{Withdraw}
 use Rattle.station.proofs.Firsts.{first_skip}
-use Rattle.station.proofs.Turns.{by_unit, with_rows}
+use Rattle.station.proofs.Turns.{by_unit}
 use Rattle.station.proofs.station.Station.withdraw.Goals as goal
 
 pub returns : goal.returns
