@@ -18,9 +18,13 @@ abbrev pub Finding : Type 0
 Finding = ℕ × Bool
 
 -- What the first statement of a list that is true is about; nothing where none is.
-abbrev pub first_of : {X : Type 0} → List (X × Bool) → Option X
-first_of [] = None
-first_of (finding ∷ more) = cond finding.1 (Some finding.0) (first_of more)
+abbrev pub first_true : {X : Type 0} → List (X × Bool) → Option X
+first_true [] = None
+first_true (statement ∷ more) = cond statement.1 (Some statement.0) (first_true more)
+
+-- The number of the first finding that is true.
+abbrev pub first_of : List Finding → Option ℕ
+first_of findings = first_true findings
 
 -- What a check gives: a value, of which `holds` is true, where no fault was found; else the refusal with the number of the first fault.
 abbrev pub Checked : {X : Type 0} → List Finding → (X → Type 0) → Result X Refusal → Type 0

@@ -1,7 +1,7 @@
 -- Which services of a unit are live, and the ground that keeps another out.
 use Rattle.std.specs.Prelude.{ℕ, Bool, true, false, not, ◌&&◌, ◌||◌, List, [], ◌∷◌, ℤ, pos, negsuc, Some, None, Option, ◌==◌, nat_lt}
 use Rattle.fcas.specs.Bid.{some_above}
-use Rattle.fcas.specs.Checks.{first_of}
+use Rattle.fcas.specs.Checks.{first_true}
 use Rattle.fcas.specs.Service.{regulating}
 use Rattle.fcas.specs.Trapezium.{at_most, forecast_of, effective_enablement_min, effective_enablement_max, effective_max_availability}
 use Rattle.fcas.specs.declared.bid.Bid.{Bid}
@@ -49,4 +49,4 @@ grounds_against kind service bid m =
 -- The lowest ground against a service. Where there is none, the service is live.
 abbrev pub ground_of : Kind → ℕ → Option Bid → Measured → Option Ground
 ground_of kind service None m = Some NoBid
-ground_of kind service (Some bid) m = first_of (grounds_against kind service bid m)
+ground_of kind service (Some bid) m = first_true (grounds_against kind service bid m)

@@ -1,6 +1,6 @@
 // Whether a service of a unit is live, and if not, why.
 ghost use Rattle.std.specs.Prelude.{◌≡◌, ◌≤◌};
-ghost use Rattle.fcas.specs.Checks.{first_of};
+ghost use Rattle.fcas.specs.Checks.{first_true};
 ghost use Rattle.fcas.specs.Live.{ground_number, ground_of, grounds_against, is_off, not_below_zero};
 ghost use Rattle.fcas.specs.Service.{service_number};
 ghost use Rattle.std.specs.Option.{option_copied, option_map};
@@ -53,7 +53,7 @@ impl Ground {
 
     // The lowest ground against a service that is bid.
     fn against_bid(opening: &Opening, service: Service, bid: &CheckedBid) -> Option<Ground>
-        ensures { result ≡ first_of (grounds_against opening.now.kind (service_number service) bid.now.bid opening.now.reading.measured) }
+        ensures { result ≡ first_true (grounds_against opening.now.kind (service_number service) bid.now.bid opening.now.reading.measured) }
     {
         let envelope = Envelope::new(opening, service, bid);
         if envelope.max_availability.get() == 0 {

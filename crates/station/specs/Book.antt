@@ -5,6 +5,7 @@ use Rattle.fcas.specs.Bid.{bid_faults}
 use Rattle.fcas.specs.Checks.{Finding, first_of}
 use Rattle.fcas.specs.Kind.{kind_faults}
 use Rattle.fcas.specs.Reading.{measured_of, reading_faults}
+use Rattle.fcas.specs.Power.{power_faults}
 use Rattle.fcas.specs.Service.{service_faults}
 use Rattle.fcas.specs.declared.kind.Kind.{Kind}
 use Rattle.fcas.specs.declared.kind.Kind.TheVariants.{Generator, SemiScheduled, Load, DemandResponse}
@@ -32,10 +33,6 @@ blank number first = record { number = number; next = first; units = replicate 2
 -- A unit's number is at most 23.
 abbrev pub unit_faults : ℕ → List Finding
 unit_faults unit = (1, nat_lt 23 unit) ∷ []
-
--- An energy or an amount is at most 4,000,000 kW.
-abbrev pub power_faults : ℕ → List Finding
-power_faults power = (7, nat_lt 4000000 power) ∷ []
 
 -- A pass is known by the station's number and by the serial under which its unit is open.
 abbrev pub pass_faults : Book → PassNumbers → List Finding

@@ -11,6 +11,7 @@ use Rattle.fcas.specs.declared.reading.Measured.{Measured}
 use Rattle.fcas.specs.declared.trapezium.Trapezium.{Trapezium}
 use Rattle.limits.specs.Figure.{FigureAt, Probed}
 use Rattle.limits.specs.Limit.{Borne, breaks, offer_at}
+use Rattle.limits.specs.Offer.{live}
 use Rattle.limits.specs.Row.{with_amount}
 use Rattle.limits.specs.Terms.{terms_of}
 use Rattle.limits.specs.declared.figure.Figure.{Figure}
@@ -104,7 +105,7 @@ abbrev pub has_energy : Option Entry → Bool
 has_energy = during false (λ _ interval. is_some interval.energy)
 
 abbrev pub is_live : ℕ → Option Entry → Bool
-is_live service = during false (λ entry interval. (offer_at (terms_in entry interval) service).live)
+is_live service = during false (λ entry interval. live (offer_at (terms_in entry interval) service))
 
 -- A unit just enrolled.
 abbrev pub enrolled : Kind → Entry

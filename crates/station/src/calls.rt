@@ -7,10 +7,9 @@ ghost use Rattle.station.specs.View.{numbers_of, view_of};
 ghost use Rattle.station.specs.declared.call.Call.TheVariants.{Enrol, Retire, Bid as Bids, Withdraw, Open, Energy, Amount, Figure as Figures, Probe, Trapezium as Scales, Close, Abandon, Lapse};
 
 use crate::pass::{Pass, PassNumbers, Returned};
-use crate::power::Power;
 use crate::row::UnitRow;
 use crate::station::Station;
-use fcas::{Bid, CheckedBid, CheckedReading, Kind, Reading, Service, Trapezium};
+use fcas::{Bid, CheckedBid, CheckedReading, Kind, Power, Reading, Service, Trapezium};
 use limits::{Figure, PlantLimit};
 use states::Refusal;
 
@@ -64,7 +63,7 @@ impl<P: PlantLimit> Station<P> {
         ensures { Turn P.PlantLimit.allowed self.old (Enrol unit kind) (done result) self.new }
     {
         check_unit(unit)?;
-        let kind = Kind::from_number(kind)?;
+        let kind = Kind::try_from(kind)?;
         self.rows[unit as usize].enrol(kind)
     }
 
@@ -79,7 +78,7 @@ impl<P: PlantLimit> Station<P> {
         ensures { Turn P.PlantLimit.allowed self.old (Bids unit service bid.now) (done result) self.new }
     {
         check_unit(unit)?;
-        let service = Service::from_number(service)?;
+        let service = Service::try_from(service)?;
         let bid = CheckedBid::new(*bid)?;
         self.rows[unit as usize].bid(service, bid)
     }
@@ -88,7 +87,7 @@ impl<P: PlantLimit> Station<P> {
         ensures { Turn P.PlantLimit.allowed self.old (Withdraw unit service) (done result) self.new }
     {
         check_unit(unit)?;
-        let service = Service::from_number(service)?;
+        let service = Service::try_from(service)?;
         self.rows[unit as usize].withdraw(service)
     }
 
@@ -112,54 +111,46 @@ impl<P: PlantLimit> Station<P> {
 
     pub fn energy(&mut self, pass: &Pass, energy: u32) -> Result<(), Refusal>
         ensures turn { Turn P.PlantLimit.allowed self.old (Energy pass.now.numbers energy) (done result) self.new }
-        ensures pass_kept { pass.exit.now ≡ pass.entry.now }
     {
-        let energy = Power::new(energy)?;
+        let energy = Power::try_from(energy)?;
         let unit = self.find(pass)?;
         self.rows[unit as usize].energy(unit, energy, &self.plant)
     }
 
     pub fn amount(&mut self, pass: &Pass, service: u32, amount: u32) -> Result<(), Refusal>
         ensures turn { Turn P.PlantLimit.allowed self.old (Amount pass.now.numbers service amount) (done result) self.new }
-        ensures pass_kept { pass.exit.now ≡ pass.entry.now }
     {
-        let service = Service::from_number(service)?;
-        let amount = Power::new(amount)?;
+        let service = Service::try_from(service)?;
+        let amount = Power::try_from(amount)?;
         let unit = self.find(pass)?;
         self.rows[unit as usize].amount(unit, service, amount, &self.plant)
     }
 
     // The figure of a service at the energy that is held, live or not.
     pub fn figure(&self, pass: &Pass, service: u32) -> Result<Figure, Refusal>
-        ensures turn { Turn P.PlantLimit.allowed self.entry.now (Figures pass.now.numbers service) (figured result) self.exit.now }
-        ensures station_kept { self.exit.now ≡ self.entry.now }
-        ensures pass_kept { pass.exit.now ≡ pass.entry.now }
+        ensures { Turn P.PlantLimit.allowed self.entry.now (Figures pass.now.numbers service) (figured result) self.exit.now }
     {
-        let service = Service::from_number(service)?;
+        let service = Service::try_from(service)?;
         let unit = self.find(pass)?;
         let table = self.rows[unit as usize].figures(unit, &self.plant)?;
-        Ok(table[service.number as usize])
+        Ok(table[service.number() as usize])
     }
 
     // The figure of a live service at another energy.
     pub fn probe(&self, pass: &Pass, service: u32, energy: u32) -> Result<Option<Figure>, Refusal>
-        ensures turn { Turn P.PlantLimit.allowed self.entry.now (Probe pass.now.numbers service energy) (probed_by result) self.exit.now }
-        ensures station_kept { self.exit.now ≡ self.entry.now }
-        ensures pass_kept { pass.exit.now ≡ pass.entry.now }
+        ensures { Turn P.PlantLimit.allowed self.entry.now (Probe pass.now.numbers service energy) (probed_by result) self.exit.now }
     {
-        let service = Service::from_number(service)?;
-        let energy = Power::new(energy)?;
+        let service = Service::try_from(service)?;
+        let energy = Power::try_from(energy)?;
         let unit = self.find(pass)?;
         Ok(self.rows[unit as usize].probe(unit, service, energy, &self.plant))
     }
 
     // The five effective numbers of a service.
     pub fn trapezium(&self, pass: &Pass, service: u32) -> Result<Option<Trapezium>, Refusal>
-        ensures turn { Turn P.PlantLimit.allowed self.entry.now (Scales pass.now.numbers service) (scaled result) self.exit.now }
-        ensures station_kept { self.exit.now ≡ self.entry.now }
-        ensures pass_kept { pass.exit.now ≡ pass.entry.now }
+        ensures { Turn P.PlantLimit.allowed self.entry.now (Scales pass.now.numbers service) (scaled result) self.exit.now }
     {
-        let service = Service::from_number(service)?;
+        let service = Service::try_from(service)?;
         let unit = self.find(pass)?;
         Ok(self.rows[unit as usize].trapezium(service))
     }

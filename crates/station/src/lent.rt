@@ -1,9 +1,10 @@
 // What each call does to the row that it is lent.
 ghost use Rattle.std.specs.Prelude.{◌≡◌, ℕ, ◌<◌, ◌≤◌, true, false, not, [], ◌∷◌, ◌++◌, is_some, Some, None, MatchResult, OnErr, ◌==◌, slice_index_or, slice_set};
 ghost use Rattle.std.specs.Option.{option_map};
+ghost use Rattle.fcas.specs.Service.{service_number};
 ghost use Rattle.limits.specs.Figure.{no_figure};
 ghost use Rattle.limits.specs.Limit.{Borne, breaks, offer_at};
-ghost use Rattle.limits.specs.Row.{with_amount};
+ghost use Rattle.limits.specs.Offer.{live};
 ghost use Rattle.limits.specs.Terms.{held_bids};
 ghost use Rattle.station.specs.Entry.{BearsRow, bid_of, broken_at, broken_with, enrolled, FigureIn, idle_faults, is_live, is_open, is_under, kind_in, on_interval, open_faults, opened, ProbedIn, trapezium_in, with_amount_of, with_bid, with_energy, with_interval};
 ghost use Rattle.states.specs.Refusal.{Named, told};
@@ -11,17 +12,16 @@ ghost use Rattle.station.specs.Lent.{Asked, held_faults, Lent, Tried};
 ghost use Rattle.states.specs.State.{energy_of};
 ghost use Rattle.station.specs.View.{entry_of, plant_row};
 
-use crate::power::Power;
 use crate::row::UnitRow;
-use fcas::{CheckedBid, CheckedReading, Kind, Service, Trapezium};
+use fcas::{CheckedBid, CheckedReading, Kind, Opening, Power, Service, Trapezium, UpTo};
 use limits::{CheckedRow, CheckedTerms, Figure, PlantLimit, Row, figures, first_broken, probe};
 use states::{Event, Refusal, State};
 
 // A bid or an amount is put in the place of its service.
 fn place<T: Copy>(places: &mut [T; 10], service: Service, value: T)
-    ensures { places.new ≡ slice_set places.old service.number value }
+    ensures { places.new ≡ slice_set places.old (service_number service) value }
 {
-    places[service.number as usize] = value;
+    places[service.number() as usize] = value;
 }
 
 // The last serial is never given.
@@ -49,7 +49,7 @@ impl UnitRow {
     }
 
     pub(crate) fn bid(&mut self, service: Service, bid: CheckedBid) -> Result<(), Refusal>
-        ensures { Lent (idle_faults (entry_of self.old)) (option_map (with_bid service.number (Some bid.bid)) (entry_of self.old)) self.old self.new result }
+        ensures { Lent (idle_faults (entry_of self.old)) (option_map (with_bid (service_number service) (Some bid.bid)) (entry_of self.old)) self.old self.new result }
     {
         self.state = self.state.step(Event::Rebid)?;
         place(&mut self.bids, service, Some(bid));
@@ -57,13 +57,13 @@ impl UnitRow {
     }
 
     fn has_bid(&self, service: Service) -> bool
-        ensures { result ≡ is_some (slice_index_or (held_bids self.now.bids) service.number None) }
+        ensures { result ≡ is_some (slice_index_or (held_bids self.now.bids) (service_number service) None) }
     {
-        self.bids[service.number as usize].is_some()
+        self.bids[service.number() as usize].is_some()
     }
 
     pub(crate) fn withdraw(&mut self, service: Service) -> Result<(), Refusal>
-        ensures { Lent (idle_faults (entry_of self.old) ++ ((26, not (is_some (bid_of (entry_of self.old) service.number))) ∷ [])) (option_map (with_bid service.number None) (entry_of self.old)) self.old self.new result }
+        ensures { Lent (idle_faults (entry_of self.old) ++ ((26, not (is_some (bid_of (entry_of self.old) (service_number service)))) ∷ [])) (option_map (with_bid (service_number service) None) (entry_of self.old)) self.old self.new result }
     {
         let state = self.state.step(Event::Rebid)?;
         if !self.has_bid(service) {
@@ -79,11 +79,15 @@ impl UnitRow {
         ensures { Lent (idle_faults (entry_of self.old) ++ open_faults reading.now.measured (entry_of self.old) ++ ((25, (next == 18446744073709551615)) ∷ [])) (option_map (with_interval (Some (opened reading.now.measured next))) (entry_of self.old)) self.old self.new result }
     {
         let state = self.state.step(Event::Open { serial: next })?;
-        reading.check_forecast(self.kind)?;
+        let opening = Opening {
+            kind: self.kind,
+            reading: *reading,
+        };
+        opening.check_forecast()?;
         if is_last(next) {
             return Err(Refusal::SerialsSpent);
         }
-        self.terms = CheckedTerms::new(self.kind, &self.bids, reading);
+        self.terms = CheckedTerms::new(&opening, &self.bids);
         self.reading = *reading;
         self.amounts = [0; 10];
         self.state = state;
@@ -100,14 +104,14 @@ impl UnitRow {
 
     // The row at an energy, as a plant limit sees it.
     fn at(&self, unit: u32, energy: Power) -> CheckedRow
-        ensures { result.row ≡ plant_row unit energy.kilowatts self.now }
+        ensures { result.row ≡ plant_row unit energy self.now }
     {
         let amounts = self.amounts;
         CheckedRow {
             row: Row {
                 unit,
                 kind: self.kind,
-                energy: energy.kilowatts as i32,
+                energy: energy.get() as i32,
                 amounts,
             },
         }
@@ -118,8 +122,8 @@ impl UnitRow {
         ensures { Asked (held_faults (entry_of self.now)) (λ row. row.row ≡ plant_row unit (energy_of self.now.state) self.now) result }
     {
         self.state.step(Event::AtEnergy)?;
-        let energy = Power {
-            kilowatts: self.state.energy(),
+        let energy = UpTo {
+            number: self.state.energy(),
         };
         Ok(self.at(unit, energy))
     }
@@ -140,10 +144,10 @@ impl UnitRow {
         energy: Power,
         plant: &P,
     ) -> Result<(), Refusal>
-        ensures { Tried ((28, not (is_open (entry_of self.old))) ∷ []) (broken_at (P.PlantLimit.allowed plant.now) unit energy.kilowatts (entry_of self.old)) (kind_in (entry_of self.old)) (option_map (on_interval (with_energy energy.kilowatts)) (entry_of self.old)) self.old self.new result }
+        ensures { Tried ((28, not (is_open (entry_of self.old))) ∷ []) (broken_at (P.PlantLimit.allowed plant.now) unit energy (entry_of self.old)) (kind_in (entry_of self.old)) (option_map (on_interval (with_energy energy)) (entry_of self.old)) self.old self.new result }
     {
         let state = self.state.step(Event::Energy {
-            energy: energy.kilowatts,
+            energy: energy.get(),
         })?;
         let row = self.at(unit, energy);
         self.check_limits(&row, plant)?;
@@ -158,21 +162,21 @@ impl UnitRow {
         amount: Power,
         plant: &P,
     ) -> Result<(), Refusal>
-        ensures { Tried (held_faults (entry_of self.old) ++ ((30, not (is_live service.number (entry_of self.old))) ∷ [])) (broken_with (P.PlantLimit.allowed plant.now) unit service.number amount.kilowatts (entry_of self.old)) (kind_in (entry_of self.old)) (option_map (on_interval (with_amount_of service.number amount.kilowatts)) (entry_of self.old)) self.old self.new result }
+        ensures { Tried (held_faults (entry_of self.old) ++ ((30, not (is_live (service_number service) (entry_of self.old))) ∷ [])) (broken_with (P.PlantLimit.allowed plant.now) unit (service_number service) amount (entry_of self.old)) (kind_in (entry_of self.old)) (option_map (on_interval (with_amount_of (service_number service) amount)) (entry_of self.old)) self.old self.new result }
     {
-        let row = with_amount(self.held(unit)?, service, amount);
+        let row = self.held(unit)?.with_amount(service, amount);
         if !self.is_live(service) {
             return Err(Refusal::NotLive);
         }
         self.check_limits(&row, plant)?;
-        place(&mut self.amounts, service, amount.kilowatts);
+        place(&mut self.amounts, service, amount.get());
         Ok(())
     }
 
     fn is_live(&self, service: Service) -> bool
-        ensures { result ≡ (offer_at self.now.terms.terms service.number).live }
+        ensures { result ≡ live (offer_at self.now.terms.terms (service_number service)) }
     {
-        self.terms.terms.offers[service.number as usize].live
+        self.terms.terms.offers[service.number() as usize].is_live()
     }
 
     // The ten figures at the energy that is held. A row that holds an energy is borne, so that nothing else is refused.
@@ -220,23 +224,19 @@ impl UnitRow {
         energy: Power,
         plant: &P,
     ) -> Option<Figure>
-        ensures { is_open (entry_of self.now) ≡ true → ProbedIn (P.PlantLimit.allowed plant.now) unit service.number energy.kilowatts (entry_of self.now) result }
+        ensures { is_open (entry_of self.now) ≡ true → ProbedIn (P.PlantLimit.allowed plant.now) unit (service_number service) energy (entry_of self.now) result }
     {
         probe(&self.terms, &self.at(unit, energy), plant, service)
     }
 
     pub(crate) fn trapezium(&self, service: Service) -> Option<Trapezium>
-        ensures { is_open (entry_of self.now) ≡ true → result ≡ trapezium_in service.number (entry_of self.now) }
+        ensures { is_open (entry_of self.now) ≡ true → result ≡ trapezium_in (service_number service) (entry_of self.now) }
     {
-        let bid = self.bids[service.number as usize];
-        bid.map(|bid| Trapezium::new(self.kind, service, &bid, &self.reading))
+        let bid = self.bids[service.number() as usize];
+        let opening = Opening {
+            kind: self.kind,
+            reading: self.reading,
+        };
+        bid.map(|bid| Trapezium::new(&opening, service, &bid))
     }
-}
-
-fn with_amount(row: CheckedRow, service: Service, amount: Power) -> CheckedRow
-    ensures { result.row ≡ with_amount row.row service.number amount.kilowatts }
-{
-    let mut row = row.row;
-    place(&mut row.amounts, service, amount.kilowatts);
-    CheckedRow { row }
 }

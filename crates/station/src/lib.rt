@@ -5,7 +5,6 @@ mod call;
 mod calls;
 mod lent;
 mod pass;
-mod power;
 mod row;
 mod run;
 mod station;

@@ -10,7 +10,7 @@ use crate::call::{Answer, Call};
 use crate::pass::{Pass, PassNumbers, Returned};
 use crate::row::UnitRow;
 use crate::station::Station;
-use fcas::{AgcStatus, CheckedReading, Kind, Measured};
+use fcas::{AgcStatus, CheckedReading, Kind, Measured, NO_POWER, Opening};
 use limits::{CheckedTerms, Figure, PlantLimit};
 use states::{Refusal, State};
 use std::alloc::{AllocError, Global};
@@ -27,18 +27,22 @@ impl UnitRow {
                 ramp_up: None,
                 ramp_down: None,
                 uigf: None,
-                energy_max: 0,
+                energy_max: NO_POWER,
                 agc_status: AgcStatus::NotTold,
             },
+        };
+        let opening = Opening {
+            kind: Kind::Generator,
+            reading,
         };
         let bids = [None; 10];
         UnitRow {
             state: State::Vacant,
-            kind: Kind::Generator,
+            kind: opening.kind,
             bids,
             reading,
             amounts: [0; 10],
-            terms: CheckedTerms::new(Kind::Generator, &bids, &reading),
+            terms: CheckedTerms::new(&opening, &bids),
         }
     }
 }
@@ -107,11 +111,7 @@ impl<P: PlantLimit> Station<P> {
         if places < 10 {
             return Answer::Returned(Refusal::TableTooShort, numbers);
         }
-        let mut table = [Figure {
-            figure: 0,
-            ground: 0,
-            by: 0,
-        }; 10];
+        let mut table = [Figure::default(); 10];
         match self.close(Pass { numbers }, &mut table) {
             Ok(()) => Answer::Closed(table),
             Err(Returned { pass, refusal }) => Answer::Returned(refusal, take_apart(pass)),
@@ -162,15 +162,13 @@ impl<P: PlantLimit> Station<P> {
     pub fn apply(&mut self, call: &Call) -> Answer
         ensures turn { Turn P.PlantLimit.allowed self.old call.now result self.new }
         ensures law { Follows P.PlantLimit.allowed self.old call.now result self.new }
-        ensures call_kept { call.exit.now ≡ call.entry.now }
     {
         self.answer(call)
     }
 
     // The law for hosts that make the calls one by one: whatever chain of calls led to this station, it is sound. Nothing is done.
     pub fn lawful(&self)
-        ensures law { Lawful P.PlantLimit.allowed self.now }
-        ensures kept { self.exit.now ≡ self.entry.now }
+        ensures { Lawful P.PlantLimit.allowed self.now }
     {}
 }
 
@@ -190,8 +188,7 @@ impl<P: PlantLimit + Drop> Station<P> {
         calls: &[Call],
         heap: Global,
     ) -> Result<Run<P>, AllocError>
-        ensures law { IfOk result (λ run. (length run.answers.items ≡ length calls.now) × Sound P.PlantLimit.allowed number first plant (upon [] calls.now run.answers.items) run.station) }
-        ensures calls_kept { calls.exit.now ≡ calls.entry.now }
+        ensures { IfOk result (λ run. (length run.answers.items ≡ length calls.now) × Sound P.PlantLimit.allowed number first plant (upon [] calls.now run.answers.items) run.station) }
     {
         let mut station = Station::new(number, first, plant);
         let mut answers = Vec::with_capacity(heap, calls.len())?;
