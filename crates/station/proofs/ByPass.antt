@@ -5,14 +5,15 @@ use Rattle.std.specs.Option.{option_map}
 use Rattle.fcas.specs.Checks.{Finding, first_of}
 use Rattle.fcas.specs.Service.{service_faults}
 use Rattle.fcas.specs.declared.trapezium.Trapezium.{Trapezium}
+use Rattle.fcas.specs.Power.{power_faults}
 use Rattle.limits.specs.Figure.{no_figure}
 use Rattle.limits.specs.declared.figure.Figure.{Figure}
 use Rattle.limits.specs.declared.row.Row.{Row}
-use Rattle.station.specs.Book.{Bears, checks, energy_faults, pass_faults, passes, power_faults, some_breaks, unit_at, written}
+use Rattle.station.specs.Book.{Bears, checks, energy_faults, pass_faults, passes, some_breaks, unit_at, written}
 use Rattle.station.specs.Entry.{BearsRow, Entry, FigureIn, ProbedIn, broken_at, broken_with, has_energy, is_live, is_open, kind_in, on_interval, trapezium_in, with_amount_of, with_energy, with_interval}
 use Rattle.station.specs.Lent.{Lent, Refuses, Tried, held_faults}
 use Rattle.states.specs.Refusal.{plain, told}
-use Rattle.station.specs.Turn.{Turn, done, figured}
+use Rattle.station.specs.Turn.{Turn, done, figured, probed_by, scaled}
 use Rattle.station.specs.View.{entry_of, view_of}
 use Rattle.station.specs.declared.call.Answer.{Answer}
 use Rattle.station.specs.declared.call.Answer.TheVariants.{Closed, Done, Probed, Returned, Figure as Figured, Trapezium as Scaled}
@@ -161,6 +162,16 @@ module _ {P : Type 0} (allowed : P → Row → Bool) (s : Station P) (pass : Pas
       → Turn allowed s (FigureCall pass service) (figured r) s
   unknown_figure service r refusal number said refuses = by_refusal allowed s (FigureCall pass service) refl figured (λ _. refl) r (told refusal) (same_told r refusal said)
       (ap (option_map plain) (first_skip (service_faults service) (pass_faults (view_of s) pass ++ energy_faults (view_of s) pass) number) ∙ refused_early (pass_faults (view_of s) pass) (energy_faults (view_of s) pass) refusal refuses)
+
+  pub unknown_probe : (service energy : ℕ) (r : Result (Option Figure) Refusal) (refusal : Refusal) → first_of (service_faults service) ≡ None → first_of (power_faults energy) ≡ None → IsErrAnd r (λ e. e ≡ refusal) → Refuses (pass_faults (view_of s) pass) refusal
+      → Turn allowed s (Probe pass service energy) (probed_by r) s
+  unknown_probe service energy r refusal number power said refuses = by_refusal allowed s (Probe pass service energy) refl probed_by (λ _. refl) r (told refusal) (same_told r refusal said)
+      (ap (option_map plain) (first_skip (service_faults service) (power_faults energy ++ pass_faults (view_of s) pass) number ∙ first_skip (power_faults energy) (pass_faults (view_of s) pass) power) ∙ refuses)
+
+  pub unknown_trapezium : (service : ℕ) (r : Result (Option Trapezium) Refusal) (refusal : Refusal) → first_of (service_faults service) ≡ None → IsErrAnd r (λ e. e ≡ refusal) → Refuses (pass_faults (view_of s) pass) refusal
+      → Turn allowed s (TrapeziumCall pass service) (scaled r) s
+  unknown_trapezium service r refusal number said refuses = by_refusal allowed s (TrapeziumCall pass service) refl scaled (λ _. refl) r (told refusal) (same_told r refusal said)
+      (ap (option_map plain) (first_skip (service_faults service) (pass_faults (view_of s) pass) number) ∙ refuses)
 
   pub unknown_close : (places : ℕ) (refusal : Refusal) → first_of ((8, ltb places 10) ∷ []) ≡ None → Refuses (pass_faults (view_of s) pass) refusal → Turn allowed s (Close pass places) (Returned refusal pass) s
   unknown_close places refusal enough refuses = turned_away allowed s (Close pass places) (Returned refusal pass) (told refusal) refl refl

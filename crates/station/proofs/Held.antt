@@ -9,6 +9,7 @@ use Rattle.fcas.specs.declared.bid.Bid.{Bid}
 use Rattle.fcas.specs.declared.kind.Kind.{Kind}
 use Rattle.fcas.specs.declared.reading.Measured.{Measured}
 use Rattle.fcas.specs.declared.trapezium.Trapezium.{Trapezium}
+use Rattle.limits.specs.Offer.{live}
 use Rattle.limits.specs.Figure.{AllFigures, FigureAt, no_figure, Probed}
 use Rattle.limits.specs.Limit.{Borne, breaks, offer_at}
 use Rattle.limits.specs.Row.{with_amount}
@@ -141,22 +142,22 @@ module _ (allowed : Row → Bool) (row : UnitRow) (unit : ℕ) where
       abbrev AmountTried : UnitRow → Result (Unit {0}) Refusal → Type 0
       AmountTried after = Tried (amount_faults (entry_of row)) (broken_with allowed unit service a (entry_of row)) (kind_in (entry_of row)) (option_map (on_interval (with_amount_of service a)) (entry_of row)) row after
 
-      faults_by : (live : Bool) → (offer_at row.terms.terms service).live ≡ live → first_of (amount_faults (entry_of row)) ≡ cond (not live) (Some 30) None
-      faults_by live l =
-          let l' : (offer_at fixed_terms service).live ≡ live = subst (λ (t : Terms). (offer_at t service).live ≡ live) fixed l in
-          subst (λ (x : Option Entry). first_of (amount_faults x) ≡ cond (not live) (Some 30) None) (sym row_is_open) (rw ((row_held row none).1, l') refl)
+      faults_by : (b : Bool) → live (offer_at row.terms.terms service) ≡ b → first_of (amount_faults (entry_of row)) ≡ cond (not b) (Some 30) None
+      faults_by b l =
+          let l' : live (offer_at fixed_terms service) ≡ b = subst (λ (t : Terms). live (offer_at t service) ≡ b) fixed l in
+          subst (λ (x : Option Entry). first_of (amount_faults x) ≡ cond (not b) (Some 30) None) (sym row_is_open) (rw ((row_held row none).1, l') refl)
 
-      pub amount_not_live : (offer_at row.terms.terms service).live ≡ false → AmountTried row (Err NotLive)
+      pub amount_not_live : live (offer_at row.terms.terms service) ≡ false → AmountTried row (Err NotLive)
       amount_not_live l = (subst (λ (x : Option ℕ). Declines x (broken_with allowed unit service a (entry_of row)) (kind_in (entry_of row)) (plain 30)) (sym (faults_by false l)) refl, refl)
 
-      module _ (live : (offer_at row.terms.terms service).live ≡ true) (asked : Row) (is : asked ≡ with_amount (plant_row unit (energy_of row.state) row) service a) where
+      module _ (is_live_now : live (offer_at row.terms.terms service) ≡ true) (asked : Row) (is : asked ≡ with_amount (plant_row unit (energy_of row.state) row) service a) where
         asked_row : asked ≡ with_amount (held_row unit (open_entry row) (interval_of row)) service a
         asked_row = is ∙ ap (λ (r : Row). with_amount r service a) held_row_lem
 
         pub amount_refused : (refusal : Refusal) → Named (breaks allowed row.terms.terms asked) row.kind (told refusal) → AmountTried row (Err refusal)
         amount_refused refusal named =
             let named' = subst (λ (r : Row). Named (breaks allowed fixed_terms r) row.kind (told refusal)) asked_row (subst (λ (t : Terms). Named (breaks allowed t asked) row.kind (told refusal)) fixed named) in (
-              subst (λ (x : Option ℕ). Declines x (broken_with allowed unit service a (entry_of row)) (kind_in (entry_of row)) (told refusal)) (sym (faults_by true live))
+              subst (λ (x : Option ℕ). Declines x (broken_with allowed unit service a (entry_of row)) (kind_in (entry_of row)) (told refusal)) (sym (faults_by true is_live_now))
                   (subst (λ (x : Option Entry). Named (broken_with allowed unit service a x) (kind_in x) (told refusal)) (sym row_is_open) named'),
               refl,
             )
@@ -164,7 +165,7 @@ module _ (allowed : Row → Bool) (row : UnitRow) (unit : ℕ) where
         pub amount_taken : Borne (breaks allowed row.terms.terms asked)
             → (first_of (amount_faults (entry_of row)) ≡ None) × Borne (broken_with allowed unit service a (entry_of row)) × (entry_in row.state row.kind (held_bids row.bids) row.reading.measured (set row.amounts service a) ≡ option_map (on_interval (with_amount_of service a)) (entry_of row))
         amount_taken borne = (
-          faults_by true live,
+          faults_by true is_live_now,
           subst (λ (x : Option Entry). Borne (broken_with allowed unit service a x)) (sym row_is_open) (subst (λ (r : Row). Borne (breaks allowed fixed_terms r)) asked_row (subst (λ (t : Terms). Borne (breaks allowed t asked)) fixed borne)),
           amount_in row.state row.kind (held_bids row.bids) row.reading.measured row.amounts service a,
         )

@@ -50,13 +50,13 @@ impl<P: PlantLimit> Station<P> {
         ensures { Asked (pass_faults (view_of self.now) pass.now.numbers) (λ unit. (unit ≡ pass.now.numbers.unit) × (unit < length self.now.rows)) result }
     {
         let numbers = pass.numbers;
-        if numbers.station == u64::from(self.number)
-            && numbers.unit < 24
-            && self.rows[numbers.unit as usize].is_under(numbers.serial)
-        {
-            return Ok(numbers.unit as u32);
+        match self.rows.get(numbers.unit as usize) {
+            Some(row)
+                if numbers.station == u64::from(self.number) && row.is_under(numbers.serial) => {
+                Ok(numbers.unit as u32)
+            }
+            _ => Err(Refusal::PassUnknown),
         }
-        Err(Refusal::PassUnknown)
     }
 
     pub fn enrol(&mut self, unit: u32, kind: u32) -> Result<(), Refusal>

@@ -36,13 +36,14 @@ impl UnitRow {
             reading,
         };
         let bids = [None; 10];
+        let terms = CheckedTerms::new(&opening, &bids);
         UnitRow {
             state: State::Vacant,
             kind: opening.kind,
             bids,
-            reading,
+            reading: opening.reading,
             amounts: [0; 10],
-            terms: CheckedTerms::new(&opening, &bids),
+            terms,
         }
     }
 }

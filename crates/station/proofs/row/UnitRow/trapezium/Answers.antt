@@ -4,5 +4,5 @@ use Rattle.station.proofs.Rows.{held_at}
 use Rattle.station.proofs.row.UnitRow.trapezium.Goals as goal
 
 pub returns : goal.returns
-returns c = trapezium_given c.args.self.now c.args.service.number c.map.result
-    (rw (held_at c.args.self.now.bids c.args.service.number c.index-self-service.result (search rules)) (search rules))
+returns c = rw (← c.number.ensures.value) (trapezium_given c.args.self.now c.number.result c.map.result
+    (rw (held_at c.args.self.now.bids c.number.result c.index-self-number.result (search rules), c.number.ensures.value) (search rules)))

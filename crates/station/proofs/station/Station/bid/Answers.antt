@@ -3,6 +3,7 @@ use Rattle.std.specs.Option.{option_map}
 use Rattle.fcas.specs.Bid.{bid_faults}
 use Rattle.fcas.specs.Checks.{refusal_number}
 use Rattle.fcas.specs.Service.{service_faults}
+use Rattle.fcas.specs.Service.{service_number}
 use Rattle.station.specs.Book.{unit_at, unit_faults}
 use Rattle.station.specs.Entry.{idle_faults, with_bid}
 use Rattle.states.specs.Refusal.{plain}
@@ -23,7 +24,7 @@ returns-in_err-bid g c =
 pub returns : goal.returns
 returns g c =
     let within : c.args.unit < length c.args.self.now.rows = search rules in
-    let service = c.in_ok-service.service.number in
+    let service = (service_number c.in_ok-service.service) in
     let bid = c.in_ok-bid.bid.bid in
     rw (sym c.in_ok-service.ensures.1, sym c.in_ok-bid.ensures.1)
     (by_unit g.P.PlantLimit.allowed c.args.self.now c.args.unit c.index-self-unit.result c.bid.new.self within

@@ -27,12 +27,8 @@ loop-call-preserved g c =
 
 pub returns : goal.returns
 returns g c =
-    let all = take_all c.loop-call.call-index c.args.calls.now c.loop-call-test.false in
-    record {
-      law = (
-        omega (arith, c.loop-call.invariant.0, c.loop-call.invariant.1),
-        subst (λ (limit : g.row.P.Denot). Sound g.P.PlantLimit.allowed c.args.number c.args.first limit (upon [] c.args.calls.now (vec_items c.loop-call.answers)) c.loop-call.station) c.new-station.ensures.made.plant
-            (subst (λ (calls : List Call). Sound g.P.PlantLimit.allowed c.args.number c.args.first c.new-station.result.plant (upon [] calls (vec_items c.loop-call.answers)) c.loop-call.station) all c.loop-call.invariant.2),
-      );
-      calls_kept = refl;
-    }
+    let all = take_all c.loop-call.call-index c.args.calls.now c.loop-call-test.false in (
+      omega (arith, c.loop-call.invariant.0, c.loop-call.invariant.1),
+      subst (λ (limit : g.row.P.Denot). Sound g.P.PlantLimit.allowed c.args.number c.args.first limit (upon [] c.args.calls.now (vec_items c.loop-call.answers)) c.loop-call.station) c.new-station.ensures.made.plant
+          (subst (λ (calls : List Call). Sound g.P.PlantLimit.allowed c.args.number c.args.first c.new-station.result.plant (upon [] calls (vec_items c.loop-call.answers)) c.loop-call.station) all c.loop-call.invariant.2),
+    )
