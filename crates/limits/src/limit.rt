@@ -255,6 +255,7 @@ impl CheckedTerms {
     }
 
     // The two sides of a limit at a row, where it is in force.
+    // Without this hint and that of coefficient the program takes 6 per cent more instructions.
     #[inline(always)]
     pub fn sides(&self, row: &CheckedRow, limit: Limit) -> Option<Sides>
         ensures value { result ≡ sides_of self.now.terms row.now.row limit }
