@@ -1,5 +1,6 @@
 // The limits of a row, in their order.
 ghost use Rattle.std.specs.Prelude.{◌≡◌, ◌≤◌, Some, pos, ◌+ℤ◌, ◌-ℤ◌, ◌*ℤ◌};
+ghost use Rattle.std.specs.Option.{option_or};
 ghost use Rattle.limits.specs.Bounds.{Bounded, BoundedIf, Moved, Product};
 ghost use Rattle.fcas.specs.Service.{regulating};
 ghost use Rattle.limits.specs.Narrowing.{first_of_row};
@@ -246,6 +247,8 @@ impl CheckedTerms {
     }
 
     // The two sides of a limit at a row, where it is in force.
+    // Without this hint and that of coefficient the program takes 6 per cent more instructions.
+    #[inline(always)]
     pub fn sides(&self, row: &CheckedRow, limit: Limit) -> Option<Sides>
         ensures value { result ≡ sides_of self.now.terms row.now.row limit }
         ensures bound { BoundedIf result }
@@ -303,6 +306,13 @@ fn first_of_row(rise_breaks: bool, fall_breaks: bool, is_allowed: bool) -> Optio
     }
 }
 
+// The limits of the services come before those of the row.
+fn earlier(of_services: Option<Limit>, of_row: Option<Limit>) -> Option<Limit>
+    ensures { result ≡ option_or of_services of_row }
+{
+    of_services.or(of_row)
+}
+
 // Whether the plant allows a row.
 pub(crate) fn is_allowed<P: PlantLimit>(plant: &P, row: &CheckedRow) -> bool
     ensures { result ≡ P.PlantLimit.allowed plant.now row.now.row }
@@ -318,11 +328,10 @@ pub fn first_broken<P: PlantLimit>(
 ) -> Option<Limit>
     ensures value { Finds (breaks (P.PlantLimit.allowed plant.now) terms.now.terms row.now.row) result }
 {
-    let of_services = terms.first_of_services(row);
     let of_row = first_of_row(
         terms.exceeds(row, Limit::RampUp),
         terms.exceeds(row, Limit::RampDown),
         is_allowed(plant, row),
     );
-    of_services.or(of_row)
+    earlier(terms.first_of_services(row), of_row)
 }

@@ -8,7 +8,7 @@ use Rattle.limits.proofs.limit.first_broken.Goals as goal
 pub returns : goal.returns
 returns g c = record {
   value = subst (λ (o : Option Limit). Finds (breaks (g.P.PlantLimit.allowed c.args.plant.now) c.args.terms.now.terms c.args.row.now.row) o)
-      (sym (c.or.ensures ∙ ap (option_or c.first_of_services-of_services.result) c.first_of_row-of_row.ensures))
-      (first_of_all c.args.terms.now.terms c.args.row.now.row c.args.terms.now.ten (g.P.PlantLimit.allowed c.args.plant.now) c.first_of_services-of_services.result _ _ _
-      c.first_of_services-of_services.ensures c.exceeds.ensures c.exceeds-2.ensures c.is_allowed.ensures);
+      (sym (c.earlier.ensures ∙ ap (option_or c.first_of_services.result) c.first_of_row-of_row.ensures))
+      (first_of_all c.args.terms.now.terms c.args.row.now.row c.args.terms.now.ten (g.P.PlantLimit.allowed c.args.plant.now) c.first_of_services.result _ _ _
+      c.first_of_services.ensures c.exceeds.ensures c.exceeds-2.ensures c.is_allowed.ensures);
 }
