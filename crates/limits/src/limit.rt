@@ -76,9 +76,7 @@ impl Limit {
         ensures { result ≡ limit_by kind self }
     {
         match self {
-            Limit::Availability(service) => service,
-            Limit::Upper(service) => service,
-            Limit::Lower(service) => service,
+            Limit::Availability(service) | Limit::Upper(service) | Limit::Lower(service) => service,
             Limit::RampUp => kind.upward().number(),
             Limit::RampDown => kind.downward().number(),
             Limit::Plant => 10,
