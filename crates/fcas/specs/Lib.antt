@@ -1,6 +1,7 @@
 pub mod Checks
 pub mod Kind
 pub mod Service
+pub mod Words
 pub mod Bid
 pub mod Power
 pub mod Kilowatts

@@ -1,8 +1,9 @@
 // The kinds of unit.
-ghost use Rattle.std.specs.Prelude.{◌≡◌};
+ghost use Rattle.std.specs.Prelude.{◌≡◌, Some};
 ghost use Rattle.fcas.specs.Checks.{Checked};
 ghost use Rattle.fcas.specs.Service.{service_number};
 ghost use Rattle.fcas.specs.Kind.{downward as downward_of, kind_faults, kind_number, upward as upward_of};
+ghost use Rattle.fcas.specs.Words.{kind_words};
 
 use crate::refusal::Refusal;
 use crate::service::Service;
@@ -55,6 +56,8 @@ impl TryFrom<u32> for Kind {
 }
 
 impl fmt::Display for Kind {
+    ghost output = { λ kind. Some (kind_words kind) };
+
     fn fmt<W: fmt::Write>(&self, f: &mut fmt::Formatter<W>) -> fmt::Result {
         f.pad(match self {
             Kind::Generator => "scheduled generator",

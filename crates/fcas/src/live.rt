@@ -1,8 +1,9 @@
 // Whether a service of a unit is live, and if not, why.
-ghost use Rattle.std.specs.Prelude.{◌≡◌, ◌≤◌};
+ghost use Rattle.std.specs.Prelude.{◌≡◌, Some, ◌≤◌};
 ghost use Rattle.fcas.specs.Checks.{first_true};
 ghost use Rattle.fcas.specs.Live.{ground_number, ground_of, grounds_against, is_off, not_below_zero};
 ghost use Rattle.fcas.specs.Service.{service_number};
+ghost use Rattle.fcas.specs.Words.{ground_words};
 ghost use Rattle.std.specs.Option.{option_copied, option_map};
 
 use crate::bid::{CheckedBid, some_above};
@@ -88,6 +89,8 @@ impl Ground {
 
 // Why, in words.
 impl fmt::Display for Ground {
+    ghost output = { λ told. Some (ground_words told) };
+
     fn fmt<W: fmt::Write>(&self, f: &mut fmt::Formatter<W>) -> fmt::Result {
         f.pad(match self {
             Ground::NoBid => "no bid",

@@ -1,6 +1,7 @@
 // Why something that was handed over is not taken.
-ghost use Rattle.std.specs.Prelude.{◌≡◌};
+ghost use Rattle.std.specs.Prelude.{◌≡◌, Some};
 ghost use Rattle.fcas.specs.Checks.{refusal_number};
+ghost use Rattle.fcas.specs.Words.{refusal_words};
 
 use std::error::Error;
 use std::fmt;
@@ -34,6 +35,8 @@ impl Refusal {
 
 // Why, in words.
 impl fmt::Display for Refusal {
+    ghost output = { λ refusal. Some (refusal_words refusal) };
+
     fn fmt<W: fmt::Write>(&self, f: &mut fmt::Formatter<W>) -> fmt::Result {
         f.pad(match self {
             Refusal::KindUnknown => "a kind is at most 3",

@@ -1,6 +1,7 @@
 // The ten frequency services.
-ghost use Rattle.std.specs.Prelude.{◌≡◌, ◌<◌};
+ghost use Rattle.std.specs.Prelude.{◌≡◌, ◌<◌, Some};
 ghost use Rattle.fcas.specs.Checks.{Checked};
+ghost use Rattle.fcas.specs.Words.{service_name};
 ghost use Rattle.fcas.specs.Service.{regulating, service_faults, service_number};
 
 use crate::refusal::Refusal;
@@ -64,6 +65,8 @@ impl TryFrom<u32> for Service {
 
 // The market's name.
 impl fmt::Display for Service {
+    ghost output = { λ service. Some (service_name service) };
+
     fn fmt<W: fmt::Write>(&self, f: &mut fmt::Formatter<W>) -> fmt::Result {
         f.pad(match self {
             Service::Raise1Sec => "RAISE1SEC",
