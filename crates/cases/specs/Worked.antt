@@ -5,7 +5,8 @@ use Rattle.fcas.specs.declared.bid.Bid.{Bid}
 use Rattle.fcas.specs.declared.kind.Kind.TheVariants.{Generator, SemiScheduled}
 use Rattle.fcas.specs.declared.reading.Reading.{Reading}
 use Rattle.fcas.specs.declared.trapezium.Trapezium.{Trapezium}
-use Rattle.fcas.specs.Live.{ground_of}
+use Rattle.std.specs.Option.{option_map}
+use Rattle.fcas.specs.Live.{ground_number, ground_of}
 use Rattle.fcas.specs.Reading.{measured_of}
 use Rattle.fcas.specs.Trapezium.{trapezium_of}
 
@@ -59,4 +60,4 @@ lower_trapezium = record { enablement_min = 300000; low_breakpoint = pos 310000;
 pub record Worked : Type 0 where
   pub raise : trapezium_of Generator 4 raise_bid (measured_of generator) ≡ raise_trapezium
   pub lower : trapezium_of Generator 9 lower_bid (measured_of generator) ≡ lower_trapezium
-  pub wind : ground_of SemiScheduled 1 (Some wind_bid) (measured_of wind_farm) ≡ Some 14
+  pub wind : option_map ground_number (ground_of SemiScheduled 1 (Some wind_bid) (measured_of wind_farm)) ≡ Some 14

@@ -6,10 +6,11 @@ ghost use Rattle.cases.specs.Worked.{Worked, generator, lower_bid, lower_trapezi
 ghost use Rattle.fcas.specs.Bid.{bid_faults};
 ghost use Rattle.fcas.specs.Checks.{first_of};
 ghost use Rattle.fcas.specs.Reading.{measured_of};
+ghost use Rattle.fcas.specs.Service.{service_number};
 ghost use Rattle.fcas.specs.Trapezium.{trapezium_of};
 ghost use Rattle.fcas.specs.declared.kind.Kind.TheVariants.{Generator};
 
-use fcas::{Bid, CheckedBid, CheckedReading, Kind, Reading, Refusal, Service, Trapezium};
+use fcas::{Bid, CheckedBid, CheckedReading, Kind, Opening, Reading, Refusal, Service, Trapezium};
 
 const ONE_BAND: [u32; 10] = [1, 0, 0, 0, 0, 0, 0, 0, 0, 0];
 
@@ -56,11 +57,14 @@ fn lower_bid() -> Bid
 
 // What the code makes of a good bid of the worked generator.
 fn generator_trapezium(service: Service, bid: Bid) -> Result<Trapezium, Refusal>
-    ensures { first_of (bid_faults bid) ≡ None → result ≡ Ok (trapezium_of Generator service.number bid (measured_of generator)) }
+    ensures { first_of (bid_faults bid) ≡ None → result ≡ Ok (trapezium_of Generator (service_number service) bid (measured_of generator)) }
 {
-    let reading = CheckedReading::new(&generator_reading())?;
+    let opening = Opening {
+        kind: Kind::Generator,
+        reading: CheckedReading::new(&generator_reading())?,
+    };
     let checked = CheckedBid::new(bid)?;
-    Ok(Trapezium::new(Kind::Generator, service, &checked, &reading))
+    Ok(Trapezium::new(&opening, service, &checked))
 }
 
 // The effective trapeziums of the worked generator's two regulating services. The rules give the same, by computation.

@@ -1,7 +1,7 @@
 // Worked rows: their figures, and the limits that hold them down.
 ghost use Rattle.std.specs.Prelude.{false};
 
-use fcas::{Bid, CheckedBid, CheckedReading, Kind, Reading, Refusal, Service};
+use fcas::{Bid, CheckedBid, CheckedReading, Kind, Opening, Reading, Refusal, Service};
 use limits::{
     CheckedRow, CheckedTerms, Figure, Limit, PlantLimit, Row, figures, first_broken, probe,
 };
@@ -67,6 +67,12 @@ fn generator_reading(ramp_up: Option<f64>, ramp_down: Option<f64>) -> Reading {
     }
 }
 
+// The terms of a unit of the kind, by a reading and bids.
+fn terms(kind: Kind, bids: &[Option<CheckedBid>; 10], reading: &Reading) -> Result<CheckedTerms, Refusal> {
+    let reading = CheckedReading::new(reading)?;
+    Ok(CheckedTerms::new(&Opening { kind, reading }, bids))
+}
+
 fn generator_terms() -> Result<CheckedTerms, Refusal> {
     let reading = generator_reading(Some(3.0), Some(2.0));
     let mut bids = NO_BIDS;
@@ -74,7 +80,7 @@ fn generator_terms() -> Result<CheckedTerms, Refusal> {
     bids[4] = bid(300_000, 300_000, 590_000, 680_000, 100_000)?;
     bids[8] = bid(290_000, 366_000, 690_000, 690_000, 76_000)?;
     bids[9] = bid(300_000, 400_000, 690_000, 690_000, 100_000)?;
-    Ok(CheckedTerms::new(Kind::Generator, &bids, &CheckedReading::new(&reading)?))
+    terms(Kind::Generator, &bids, &reading)
 }
 
 // The generator with raise regulation alone, and no ramps.
@@ -82,18 +88,14 @@ fn regulating_terms() -> Result<CheckedTerms, Refusal> {
     let reading = generator_reading(None, None);
     let mut bids = NO_BIDS;
     bids[4] = bid(300_000, 300_000, 590_000, 680_000, 100_000)?;
-    Ok(CheckedTerms::new(Kind::Generator, &bids, &CheckedReading::new(&reading)?))
+    terms(Kind::Generator, &bids, &reading)
 }
 
 fn load_terms() -> Result<CheckedTerms, Refusal> {
     let mut bids = NO_BIDS;
     bids[2] = bid(100_000, 140_000, 300_000, 300_000, 40_000)?;
     bids[4] = bid(100_000, 120_000, 300_000, 300_000, 20_000)?;
-    Ok(CheckedTerms::new(
-        Kind::Load,
-        &bids,
-        &CheckedReading::new(&reading(200.0, Some(3.0), Some(4.0)))?,
-    ))
+    terms(Kind::Load, &bids, &reading(200.0, Some(3.0), Some(4.0)))
 }
 
 fn row(kind: Kind, energy: i32, amounts: [u32; 10]) -> Result<CheckedRow, Refusal> {
@@ -128,7 +130,7 @@ fn probed<P: PlantLimit>(
     plant: &P,
     service: u32,
 ) -> Result<(u32, u8, u8), Refusal> {
-    Ok(told(probe(terms, row, plant, Service::from_number(service)?)))
+    Ok(told(probe(terms, row, plant, Service::try_from(service)?)))
 }
 
 fn in_table(table: &Option<[Figure; 10]>, service: usize) -> (u32, u8, u8) {

@@ -1,6 +1,6 @@
 // Readings and bids at the edges of the rules.
 use crate::row_tests::refused;
-use fcas::{Bid, CheckedBid, CheckedReading, Ground, Kind, Reading, Refusal, Service, Trapezium};
+use fcas::{Bid, CheckedBid, CheckedReading, Ground, Kind, Opening, Reading, Refusal, Service, Trapezium};
 use std::test::Fail;
 
 const ONE_BAND: [u32; 10] = [0, 0, 0, 0, 0, 0, 0, 0, 0, 1];
@@ -44,15 +44,16 @@ fn bid(availability: u32) -> Bid {
     }
 }
 
-// What the checks make of a service, a bid and a reading.
+// What the checks make of a kind, a service, a bid and a reading.
 fn checked(
+    kind: Kind,
     service: u32,
     availability: u32,
     reading: &Reading,
-) -> Result<(Service, CheckedBid, CheckedReading), Refusal> {
+) -> Result<(Opening, Service, CheckedBid), Refusal> {
     let reading = CheckedReading::new(reading)?;
     let bid = CheckedBid::new(bid(availability))?;
-    Ok((Service::from_number(service)?, bid, reading))
+    Ok((Opening { kind, reading }, Service::try_from(service)?, bid))
 }
 
 fn trapezium(
@@ -61,8 +62,8 @@ fn trapezium(
     availability: u32,
     reading: &Reading,
 ) -> Result<Trapezium, Refusal> {
-    let (service, bid, reading) = checked(service, availability, reading)?;
-    Ok(Trapezium::new(kind, service, &bid, &reading))
+    let (opening, service, bid) = checked(kind, service, availability, reading)?;
+    Ok(Trapezium::new(&opening, service, &bid))
 }
 
 // The number of the ground against a service, 0 where it is live, and that of the refusal where something is refused.
@@ -80,8 +81,8 @@ fn find_ground(
     availability: u32,
     reading: &Reading,
 ) -> Result<Option<Ground>, Refusal> {
-    let (service, bid, reading) = checked(service, availability, reading)?;
-    Ok(Ground::against(kind, service, Some(&bid), &reading))
+    let (opening, service, bid) = checked(kind, service, availability, reading)?;
+    Ok(Ground::against(&opening, service, Some(&bid)))
 }
 
 #[test]

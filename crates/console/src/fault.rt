@@ -1,6 +1,7 @@
 // What is wrong with a line.
 use crate::lines::TooLong;
 use fcas::Refusal;
+use std::fmt;
 use thiserror::Error;
 
 // The line cannot be read.
@@ -52,5 +53,18 @@ impl From<Fault> for Trouble {
 impl From<Refusal> for Trouble {
     fn from(refusal: Refusal) -> Trouble {
         Trouble::Refused(refusal)
+    }
+}
+
+// By hand, since the derive cannot name the refusal's number before its words.
+impl fmt::Display for Trouble {
+    fn fmt<W: fmt::Write>(&self, f: &mut fmt::Formatter<W>) -> fmt::Result {
+        match self {
+            Trouble::Unread(fault) => write!(f, "error: {fault}"),
+            Trouble::Refused(refusal) => {
+                let number = refusal.number();
+                write!(f, "declined {number}: {refusal}")
+            }
+        }
     }
 }

@@ -1,33 +1,25 @@
 // The figures of one row, and the limits that they come from.
-use crate::print::{by_name, figure_ground_words, limit_words};
-use fcas::Kind;
+use crate::print::{HeldBy, NamedBy};
+use fcas::{Kind, SERVICES, Service};
 use limits::{CheckedRow, CheckedTerms, Figure, Limit, PlantLimit, Sides, figures, first_broken};
 use plants::PlantChoice;
 use std::io;
 use std::io::Write;
 
-// A limit in words, and the service that it is named by.
-fn put_limit_name(limit: Limit, kind: Kind, out: &mut Vec<u8>) -> io::Result<()> {
-    let number = limit.number();
-    let words = limit_words(number);
-    let by = by_name(limit.by(kind));
-    write!(out, "{number} {words}, by {by}")
-}
-
-fn put_figure(number: u8, held: u32, figure: &Figure, out: &mut Vec<u8>) -> io::Result<()> {
-    let name = by_name(number);
-    let most = figure.figure;
-    let ground = figure.ground;
-    let words = figure_ground_words(ground);
+// What one service holds and could hold, and what holds it down.
+fn put_figure(service: Service, held: u32, figure: &Figure, out: &mut Vec<u8>) -> io::Result<()> {
     write!(
         out,
-        "{number} {name:<10}  {held:>10}  {most:>10}  {ground} {words}"
+        "{} {service:<10}  {held:>10}  {:>10}  {} {}",
+        service.number(),
+        figure.figure,
+        figure.ground,
+        HeldBy(figure.ground)
     )?;
-    if ground > 10 {
+    if figure.ground > 10 {
         return writeln!(out, "");
     }
-    let by = by_name(figure.by);
-    writeln!(out, ", by {by}")
+    writeln!(out, ", by {}", NamedBy(figure.by))
 }
 
 // The ten figures of a row, or the first limit that it breaks.
@@ -43,13 +35,8 @@ pub(crate) fn put_figures(
     let energy = row.row.energy;
     writeln!(out, "figures at {energy} kW")?;
     writeln!(out, "service             held      figure  held down by")?;
-    for number in 0..10u8 {
-        put_figure(
-            number,
-            row.row.amounts[number as usize],
-            &table[number as usize],
-            out,
-        )?;
+    for (service, (held, figure)) in SERVICES.into_iter().zip(row.row.amounts.iter().zip(&table)) {
+        put_figure(service, *held, figure, out)?;
     }
     Ok(())
 }
@@ -62,7 +49,9 @@ fn put_broken(
 ) -> io::Result<()> {
     write!(out, "the row is not borne; it breaks ")?;
     if let Some(limit) = first_broken(terms, row, plant) {
-        put_limit_name(limit, terms.terms.kind, out)?;
+        let number = limit.number();
+        let by = limit.by(terms.terms.kind);
+        write!(out, "{number} {}, by {}", HeldBy(number), NamedBy(by))?;
     }
     writeln!(out, "")
 }
@@ -70,14 +59,14 @@ fn put_broken(
 // One limit in force, its sides and what is left to it.
 fn put_limit(limit: Limit, kind: Kind, sides: &Sides, out: &mut Vec<u8>) -> io::Result<()> {
     let number = limit.number();
-    let words = limit_words(number);
-    let by = by_name(limit.by(kind));
-    let lesser = sides.lesser;
-    let greater = sides.greater;
-    let left = greater.saturating_sub(lesser);
     writeln!(
         out,
-        "{number} {words:<27} {by:<10}  {lesser:>16} <= {greater:>16}  {left:>16}"
+        "{number} {:<27} {:<10}  {:>16} <= {:>16}  {:>16}",
+        HeldBy(number),
+        NamedBy(limit.by(kind)),
+        sides.lesser,
+        sides.greater,
+        sides.greater.saturating_sub(sides.lesser)
     )
 }
 

@@ -3,7 +3,7 @@ ghost use Rattle.std.specs.Prelude.{◌≡◌, min};
 
 use crate::fault::Fault;
 use crate::lines::is_blank;
-use fcas::{Bid, Reading};
+use fcas::{Bid, Kind, Reading, Service};
 use numerals::whole;
 use plants::{Bare, Both, ConnectionCap, GovernorShare, PlantChoice};
 use std::array;
@@ -28,29 +28,31 @@ fn narrowed(number: u64) -> u32
 }
 
 fn kind_named(word: &[u8]) -> Option<u32> {
-    match word {
-        b"generator" => Some(0),
-        b"semi-scheduled" => Some(1),
-        b"load" => Some(2),
-        b"demand-response" => Some(3),
-        _ => None,
-    }
+    let kind = match word {
+        b"generator" => Kind::Generator,
+        b"semi-scheduled" => Kind::SemiScheduled,
+        b"load" => Kind::Load,
+        b"demand-response" => Kind::DemandResponse,
+        _ => return None,
+    };
+    Some(kind as u32)
 }
 
 fn service_named(word: &[u8]) -> Option<u32> {
-    match word {
-        b"RAISE1SEC" => Some(0),
-        b"RAISE6SEC" => Some(1),
-        b"RAISE60SEC" => Some(2),
-        b"RAISE5MIN" => Some(3),
-        b"RAISEREG" => Some(4),
-        b"LOWER1SEC" => Some(5),
-        b"LOWER6SEC" => Some(6),
-        b"LOWER60SEC" => Some(7),
-        b"LOWER5MIN" => Some(8),
-        b"LOWERREG" => Some(9),
-        _ => None,
-    }
+    let service = match word {
+        b"RAISE1SEC" => Service::Raise1Sec,
+        b"RAISE6SEC" => Service::Raise6Sec,
+        b"RAISE60SEC" => Service::Raise60Sec,
+        b"RAISE5MIN" => Service::Raise5Min,
+        b"RAISEREG" => Service::RaiseReg,
+        b"LOWER1SEC" => Service::Lower1Sec,
+        b"LOWER6SEC" => Service::Lower6Sec,
+        b"LOWER60SEC" => Service::Lower60Sec,
+        b"LOWER5MIN" => Service::Lower5Min,
+        b"LOWERREG" => Service::LowerReg,
+        _ => return None,
+    };
+    Some(u32::from(service.number()))
 }
 
 impl<'a> Words<'a> {

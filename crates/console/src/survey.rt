@@ -3,8 +3,7 @@ use crate::fault::{Fault, Trouble};
 use crate::figures::{put_figures, put_limits};
 use crate::lines::{Session, TooLong};
 use crate::parse::Words;
-use crate::print::{ground_words, kind_words, refusal_words, service_name};
-use fcas::{CheckedBid, CheckedReading, Ground, Kind, Service, Trapezium};
+use fcas::{CheckedBid, CheckedReading, Ground, Kind, Opening, SERVICES, Service, Trapezium};
 use limits::{CheckedRow, CheckedTerms, Row};
 use plants::{Bare, PlantChoice};
 use std::io;
@@ -46,7 +45,7 @@ impl Survey {
     fn take_kind(&mut self, words: &mut Words<'_>) -> Result<(), Trouble> {
         let number = words.kind()?;
         words.end()?;
-        self.kind = Some(Kind::from_number(number)?);
+        self.kind = Some(Kind::try_from(number)?);
         Ok(())
     }
 
@@ -54,8 +53,8 @@ impl Survey {
         let number = words.service()?;
         let bid = words.bid()?;
         words.end()?;
-        let service = Service::from_number(number)?;
-        self.bids[service.number as usize] = Some(CheckedBid::new(bid)?);
+        let service = Service::try_from(number)?;
+        self.bids[service.number() as usize] = Some(CheckedBid::new(bid)?);
         Ok(())
     }
 
@@ -117,69 +116,45 @@ impl Survey {
 
 // The five effective numbers, under the columns of the header.
 fn put_trapezium(trapezium: &Trapezium, out: &mut Vec<u8>) -> io::Result<()> {
-    let enablement_min = trapezium.enablement_min;
-    let low = trapezium.low_breakpoint;
-    let high = trapezium.high_breakpoint;
-    let enablement_max = trapezium.enablement_max;
-    let availability = trapezium.max_availability;
     write!(
         out,
-        "  {enablement_min:>14}  {low:>14}  {high:>15}  {enablement_max:>14}  {availability:>16}"
+        "  {:>14}  {:>14}  {:>15}  {:>14}  {:>16}",
+        trapezium.enablement_min,
+        trapezium.low_breakpoint,
+        trapezium.high_breakpoint,
+        trapezium.enablement_max,
+        trapezium.max_availability
     )
 }
 
 // Whether a service is live, or the ground that keeps it out.
 fn put_state(ground: Option<Ground>, out: &mut Vec<u8>) -> io::Result<()> {
     match ground {
-        Some(ground) => {
-            let number = ground.number();
-            let words = ground_words(ground);
-            write!(out, "{number} {words:<40}")
-        }
+        Some(ground) => write!(out, "{} {ground:<40}", ground.number()),
         None => write!(out, "{:<43}", "live"),
     }
 }
 
-// What is known of a service that is bid.
-fn put_bid(
-    kind: Kind,
-    service: Service,
-    bid: &CheckedBid,
-    reading: &CheckedReading,
-    out: &mut Vec<u8>,
-) -> io::Result<()> {
-    put_state(Ground::against(kind, service, Some(bid), reading), out)?;
-    put_trapezium(&Trapezium::new(kind, service, bid, reading), out)
-}
-
 // One service of the unit.
 fn put_service(
-    kind: Kind,
+    opening: &Opening,
     service: Service,
-    bid: &Option<CheckedBid>,
-    reading: &CheckedReading,
+    bid: Option<&CheckedBid>,
     out: &mut Vec<u8>,
 ) -> io::Result<()> {
-    let number = service.number;
-    let name = service_name(service);
-    write!(out, "{number} {name:<10}  ")?;
+    write!(out, "{} {service:<10}  ", service.number())?;
     match bid {
-        Some(bid) => put_bid(kind, service, bid, reading, out)?,
-        None => put_no_bid(out)?,
+        Some(bid) => {
+            put_state(Ground::against(opening, service, Some(bid)), out)?;
+            put_trapezium(&Trapezium::new(opening, service, bid), out)?;
+        }
+        None => write!(out, "{} {}", Ground::NoBid.number(), Ground::NoBid)?,
     }
-    out.push(b'\n')?;
-    Ok(())
-}
-
-fn put_no_bid(out: &mut Vec<u8>) -> io::Result<()> {
-    let number = Ground::NoBid.number();
-    let words = ground_words(Ground::NoBid);
-    write!(out, "{number} {words}")
+    writeln!(out, "")
 }
 
 fn put_header(kind: Kind, out: &mut Vec<u8>) -> io::Result<()> {
-    let words = kind_words(kind);
-    writeln!(out, "{words}, in kW")?;
+    writeln!(out, "{kind}, in kW")?;
     writeln!(
         out,
         "service       {:<43}  enablement min  low breakpoint  high breakpoint  enablement max  max availability",
@@ -188,20 +163,13 @@ fn put_header(kind: Kind, out: &mut Vec<u8>) -> io::Result<()> {
 }
 
 fn put_survey(
-    kind: Kind,
+    opening: &Opening,
     bids: &[Option<CheckedBid>; 10],
-    reading: &CheckedReading,
     out: &mut Vec<u8>,
 ) -> io::Result<()> {
-    put_header(kind, out)?;
-    for number in 0..10u8 {
-        put_service(
-            kind,
-            Service { number },
-            &bids[number as usize],
-            reading,
-            out,
-        )?;
+    put_header(opening.kind, out)?;
+    for (service, bid) in SERVICES.into_iter().zip(bids) {
+        put_service(opening, service, bid.as_ref(), out)?;
     }
     Ok(())
 }
@@ -212,12 +180,7 @@ impl Session for Survey {
         let line_number = self.line;
         match self.take_line(line) {
             Ok(()) => Ok(()),
-            Err(Trouble::Unread(fault)) => writeln!(out, "line {line_number}: error: {fault}"),
-            Err(Trouble::Refused(refusal)) => {
-                let number = refusal.number();
-                let words = refusal_words(refusal);
-                writeln!(out, "line {line_number}: declined {number}: {words}")
-            }
+            Err(trouble) => writeln!(out, "line {line_number}: {trouble}"),
         }
     }
 
@@ -228,14 +191,13 @@ impl Session for Survey {
         let Some(reading) = self.reading else {
             return writeln!(out, "no survey: no reading is known");
         };
-        if let Err(refusal) = reading.check_forecast(kind) {
-            let number = refusal.number();
-            let words = refusal_words(refusal);
-            return writeln!(out, "no survey: declined {number}: {words}");
+        let opening = Opening { kind, reading };
+        if let Err(refusal) = opening.check_forecast() {
+            return writeln!(out, "no survey: {}", Trouble::Refused(refusal));
         }
-        put_survey(kind, &self.bids, &reading, out)?;
+        put_survey(&opening, &self.bids, out)?;
         self.is_done = true;
-        let terms = CheckedTerms::new(kind, &self.bids, &reading);
+        let terms = CheckedTerms::new(&opening, &self.bids);
         match self.row {
             Some(row) => self.end_row(&terms, row, out),
             None => Ok(()),
