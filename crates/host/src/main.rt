@@ -57,10 +57,7 @@ fn report(
 ) -> io::Result<()> {
     match interval(station, energy, table) {
         Ok(()) => println!(rt; "{energy} kW is taken"),
-        Err(refusal) => {
-            let number = refusal.number();
-            println!(rt; "{energy} kW is refused: {number}")
-        }
+        Err(refusal) => println!(rt; "{energy} kW is refused: {}", refusal.number()),
     }
 }
 
@@ -72,12 +69,10 @@ fn main(rt: HostRuntime) -> io::Result<()> {
         by: 0,
     }; 10];
     if let Err(refusal) = enrol(&mut station) {
-        let number = refusal.number();
-        println!(rt; "not enrolled: {number}")?;
+        println!(rt; "not enrolled: {}", refusal.number())?;
     }
     report(&rt, &mut station, 460_000, &mut table)?;
-    let figure = table[4].figure;
-    let ground = table[4].ground;
+    let Figure { figure, ground, .. } = table[4];
     println!(rt; "raise regulation: {figure} kW, held down by limit {ground}")?;
     report(&rt, &mut station, 465_001, &mut table)?;
     report(&rt, &mut station, 460_000, &mut table[0..9])

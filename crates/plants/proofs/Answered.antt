@@ -4,7 +4,6 @@ use Rattle.std.specs.Bool.{then_some}
 use Rattle.std.specs.Option.{option_copied}
 use Rattle.std.specs.Slice.{IsItemAt}
 use Rattle.std.proofs.lemmas.Int.{to_z-of_z}
-use Rattle.std.proofs.Math.Bool.{and-true}
 use Rattle.std.proofs.lemmas.Bool.{and_from, and_parts}
 use Rattle.limits.specs.Plant.{Greatest, Most}
 
@@ -29,10 +28,6 @@ greatest_of_room q s found room z fits e same h = greatest_same (λ a. int_le (p
 pub greatest_or_none : (p : ℕ → Bool) (b : Bool) (s : ℕ) → s ≤ 9 → ((a : ℕ) → b ≡ p a) → Greatest p s (then_some b 4000000)
 greatest_or_none p true s l e = (l, record { within = omega arith; here = sym (e 4000000); most = λ b m h. m })
 greatest_or_none p false s l e = λ k. sym (e 0)
-
--- the same test beside another that passes
-pub greatest_beside : (p : ℕ → Bool) (q : Bool) (s : ℕ) (r : Option ℕ) → q ≡ true → Greatest p s r → Greatest (λ a. p a && q) s r
-greatest_beside p q s r e h = greatest_same p (λ a. p a && q) (λ a. rw e (sym (and-true (p a)))) s r h
 
 -- an element that `get` found
 pub element : (xs : List ℕ) (i j a : ℕ) (r : Option (Bor ℕ)) → IsItemAt xs j r → j ≡ i → option_copied r ≡ Some a → (i < length xs) × (a ≡ get_or xs i 0)

@@ -40,6 +40,13 @@ impl Side {
         self.held <= u64::from(self.most)
     }
 
+    // What is left to a service that holds so much of this side.
+    fn room(&self, amount: u32) -> i64
+        ensures { result ≡ pos self.now.most -ℤ (pos self.now.held -ℤ pos amount) }
+    {
+        i64::from(self.most) - (self.held as i64 - i64::from(amount))
+    }
+
     // The greatest amount of a service that holds so much of this side; nothing where the other side is exceeded.
     fn greatest_beside(&self, other: &Side, amount: u32) -> Option<u32>
         ensures { (service : ℕ) → service ≤ 9 → Greatest (λ a. int_le (pos a) (pos self.now.most -ℤ (pos self.now.held -ℤ pos amount)) && nat_le other.now.held other.now.most) service result }
@@ -47,7 +54,7 @@ impl Side {
         if !other.is_kept() {
             return None;
         }
-        greatest(i64::from(self.most) - (self.held as i64 - i64::from(amount)))
+        greatest(self.room(amount))
     }
 }
 
