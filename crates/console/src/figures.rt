@@ -93,8 +93,8 @@ pub(crate) fn put_limits(
         out,
         "limit                         by                lesser side           greater side              left"
     )?;
-    for service in 0..10u8 {
-        for limit in Limit::of_service(service) {
+    for service in SERVICES {
+        for limit in Limit::of_service(service.number()) {
             put_limit_if_in_force(terms, row, limit, out)?;
         }
     }

@@ -6,7 +6,7 @@ ghost use Rattle.states.specs.Refusal.{limit_told, plain, told};
 use fcas::{Kind, Refusal as Unfit};
 use limits::Limit;
 
-#[derive(Clone, Copy)]
+#[derive(Clone, Copy, Debug, PartialEq, Eq)]
 pub enum Refusal {
     UnitUnknown,
     // What was handed over is not fit to be taken.
