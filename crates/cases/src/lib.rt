@@ -42,6 +42,7 @@ fn raise_bid() -> Bid
     }
 }
 
+// A worked bid is its five numbers by name, and so this is a second function of that shape.
 fn lower_bid() -> Bid
     ensures { result ≡ lower_bid }
 {

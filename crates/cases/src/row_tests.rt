@@ -68,7 +68,11 @@ fn generator_reading(ramp_up: Option<f64>, ramp_down: Option<f64>) -> Reading {
 }
 
 // The terms of a unit of the kind, by a reading and bids.
-fn terms(kind: Kind, bids: &[Option<CheckedBid>; 10], reading: &Reading) -> Result<CheckedTerms, Refusal> {
+fn terms(
+    kind: Kind,
+    bids: &[Option<CheckedBid>; 10],
+    reading: &Reading,
+) -> Result<CheckedTerms, Refusal> {
     let reading = CheckedReading::new(reading)?;
     Ok(CheckedTerms::new(&Opening { kind, reading }, bids))
 }

@@ -1,6 +1,8 @@
 // Readings and bids at the edges of the rules.
 use crate::row_tests::refused;
-use fcas::{Bid, CheckedBid, CheckedReading, Ground, Kind, Opening, Reading, Refusal, Service, Trapezium};
+use fcas::{
+    Bid, CheckedBid, CheckedReading, Ground, Kind, Opening, Reading, Refusal, Service, Trapezium,
+};
 use std::test::Fail;
 
 const ONE_BAND: [u32; 10] = [0, 0, 0, 0, 0, 0, 0, 0, 0, 1];

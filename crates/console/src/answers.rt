@@ -39,6 +39,7 @@ fn put_figure(figure: &Figure, out: &mut Vec<u8>) -> Result<(), AllocError> {
 }
 
 // A figure as one of ten, in one word.
+// Its parts have other widths than those of a pass, so that a shared function would take them widened, in an array.
 fn put_figure_word(figure: &Figure, out: &mut Vec<u8>) -> Result<(), AllocError> {
     put(b" ", figure.figure, out)?;
     put(b"/", figure.ground, out)?;

@@ -140,6 +140,7 @@ fn take_chunk<S: Session>(
 
 // What one read gives, made again where a signal interrupts it.
 fn read_chunk<'a, R: Read>(input: &mut R, buffer: &'a mut [u8]) -> io::Result<&'a [u8]> {
+    // A loop that ends, since one without an end would be waiting, and is kept apart in the language.
     for _ in 0..u64::MAX {
         match input.read(buffer) {
             Err(e) if e.kind() == ErrorKind::Interrupted => {}

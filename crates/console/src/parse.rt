@@ -122,7 +122,7 @@ impl<'a> Words<'a> {
             .ok_or(fault)
     }
 
-    // The number of a kind, which may be named.
+    // The number of a kind, which may be named: calls take numbers, and the station refuses those that are none.
     pub(crate) fn kind(&mut self) -> Result<u32, Fault> {
         self.number_or_name(kind_named, Fault::NoKind)
     }

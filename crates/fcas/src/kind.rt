@@ -28,7 +28,7 @@ impl Kind {
         }
     }
 
-    // The regulating service that moves it down.
+    // The regulating service that moves it down: the other one, and two matches are plainer than one of a direction.
     pub fn downward(self) -> Service
         ensures { service_number result ≡ downward_of self }
     {

@@ -39,6 +39,7 @@ fn is_off(status: AgcStatus) -> bool
 }
 
 impl Ground {
+    // A method, since `u8::from` would not say that it is the rules' number.
     pub fn number(self) -> u8
         ensures { result ≡ ground_number self }
     {

@@ -93,6 +93,7 @@ impl Opening {
     }
 }
 
+// Two functions of one line each: a shared one would have to be told `max` or `min`.
 pub(crate) fn at_least(limit: Option<Power>, power: Power) -> Power
     ensures { result ≡ at_least limit power }
 {

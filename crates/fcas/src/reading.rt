@@ -20,6 +20,7 @@ pub struct Reading {
     pub ramp_down: Option<f64>,
     pub uigf: Option<f64>,
     pub energy_max: u32,
+    // A number, since the rules say what a status above 2 is answered.
     pub agc_status: u32,
 }
 

@@ -18,6 +18,7 @@ pub enum Refusal {
 }
 
 impl Refusal {
+    // A method, since `u8::from` would not say that it is the rules' number.
     pub fn number(self) -> u8
         ensures { result ≡ refusal_number self }
     {

@@ -75,7 +75,7 @@ impl Envelope {
         }
     }
 
-    // A forecast caps the enablement maximum.
+    // A forecast caps the enablement maximum. The steps of scaling are a function each, since which apply is a rule of its own.
     fn within_forecast(self, forecast: Option<Power>) -> Envelope
         ensures min { result.enablement_min ≡ self.enablement_min }
         ensures max { result.enablement_max ≡ at_most forecast self.enablement_max }

@@ -51,6 +51,7 @@ impl Figure {
     }
 }
 
+// The terms, the row and the plant stay three parameters: in a struct of references a clause would have to look behind two of them to say a row.
 // The figure of a live service at a row, whatever its amount there; nothing where the service is not live or not even 0 is borne.
 pub fn probe<P: PlantLimit>(
     terms: &CheckedTerms,

@@ -38,7 +38,7 @@ impl Sides {
     }
 }
 
-// What is no service does not regulate.
+// What is no service does not regulate. A number is asked for, here and below, since a Limit holds one.
 pub(crate) fn is_regulating(service: u8) -> bool
     ensures { result ≡ regulating service }
 {
@@ -57,7 +57,7 @@ impl Limit {
         ]
     }
 
-    // The number of the limit in the rules.
+    // The number of the limit in the rules: a method, since two limits share one and it converts nothing back.
     pub fn number(self) -> u8
         ensures { result ≡ limit_number self }
     {
@@ -191,6 +191,7 @@ impl CheckedTerms {
         Some(upper_sides(&offer, energy, row.amount(service)))
     }
 
+    // The mirror of the upper limit: other sides and another energy, so that one function would take two more as parameters.
     pub(crate) fn lower_limit_sides(&self, row: &CheckedRow, service: u8) -> Option<Sides>
         ensures value { result ≡ sides_of self.now.terms row.now.row (Limit.Lower service) }
         ensures bound { BoundedIf result }
@@ -232,6 +233,7 @@ impl CheckedTerms {
         })
     }
 
+    // The mirror of the ramp upward, with lesser and greater exchanged.
     pub(crate) fn ramp_down_sides(&self, row: &CheckedRow) -> Option<Sides>
         ensures value { result ≡ sides_of self.now.terms row.now.row Limit.RampDown }
         ensures bound { BoundedIf result }

@@ -58,7 +58,7 @@ fn cap(held: Power, room: u64, coefficient: u32) -> Option<u32>
 }
 
 impl CheckedTerms {
-    // What one kilowatt of a service takes from the room of a limit.
+    // What one kilowatt of a service takes from the room of a limit. Services are numbers in this file, since a Limit holds one.
     #[inline(always)]
     fn coefficient(&self, limit: Limit, service: u8) -> u32
         ensures { result ≡ coefficient_of self.now.terms limit service }

@@ -13,7 +13,7 @@ pub trait PlantLimit {
     fn allows(&self, row: &Row) -> bool
         ensures { result ≡ allowed self.now row.now };
 
-    // The greatest amount of a service with which the row is allowed.
+    // The greatest amount of a service with which the row is allowed. Any number may be asked for: a Service would be a narrower type, and ask more of callers.
     fn most(&self, row: &Row, service: u8) -> Option<u32>
         ensures { Greatest (λ a. allowed self.now (with_amount row.now service a)) service result };
 

@@ -36,7 +36,7 @@ impl CheckedRow {
         Ok(CheckedRow { row })
     }
 
-    // The amount of a service, 0 for what is none.
+    // The amount of a service, 0 for what is none. A number is asked for, since a Limit holds one.
     pub(crate) fn amount(&self, service: u8) -> Power
         ensures { result ≡ amount_of self.now.row service }
     {

@@ -39,7 +39,7 @@ fn flow(row: &Row) -> i64
         + (i64::from(amounts[usize::from(upward)]) + i64::from(amounts[usize::from(delayed)]))
 }
 
-// Whether a service adds to the flow.
+// Whether a service adds to the flow. A number, as `most` is asked for one.
 fn adds(row: &Row, service: u8) -> bool
     ensures { result ≡ (service == upward_of row.now.kind || service == delayed_of row.now.kind) }
 {

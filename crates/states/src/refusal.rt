@@ -21,6 +21,7 @@ pub enum Refusal {
     PassUnknown,
     NoEnergy,
     NotLive,
+    // By the numbers of the rules, as a host stores and reads them.
     LimitBroken { ground: u8, by: u8 },
 }
 
@@ -35,6 +36,7 @@ impl Refusal {
         }
     }
 
+    // A method, since `u8::from` would not say that it is the rules' number.
     pub fn number(self) -> u8
         ensures { result ≡ (told self).number }
     {

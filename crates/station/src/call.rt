@@ -4,6 +4,7 @@ use fcas::{Bid, Reading, Trapezium};
 use limits::Figure;
 use states::Refusal;
 
+// Units, kinds and services are the numbers that a host hands over: the rules say what one out of range is answered.
 #[derive(Clone, Copy)]
 pub enum Call {
     Enrol {

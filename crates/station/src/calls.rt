@@ -59,6 +59,7 @@ impl<P: PlantLimit> Station<P> {
         }
     }
 
+    // Each call makes its checks in the order of the rules, so that two may look alike; kinds and services come as numbers, since the rules refuse some.
     pub fn enrol(&mut self, unit: u32, kind: u32) -> Result<(), Refusal>
         ensures { Turn P.PlantLimit.allowed self.old (Enrol unit kind) (done result) self.new }
     {

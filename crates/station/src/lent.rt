@@ -41,6 +41,7 @@ impl UnitRow {
         Ok(())
     }
 
+    // Apart from `end`, though a step alike: each has its own checks to promise.
     pub(crate) fn retire(&mut self) -> Result<(), Refusal>
         ensures { Lent (idle_faults (entry_of self.old)) None self.old self.new result }
     {
