@@ -62,6 +62,7 @@ pub(crate) fn kilowatts_if_present<const MOST: u32>(megawatts: Option<f64>) -> O
     requires most { unwrap_or (kilowatts_if megawatts) 0 ≤ MOST }
     ensures { result ≡ kilowatts_if megawatts }
 {
+    // A match: `map` was tried, and the checker does not cover a closure whose result names a const parameter.
     match megawatts {
         Some(x) => Some(UpTo {
             number: unsigned_kilowatts(x),

@@ -11,7 +11,7 @@ use crate::power::{Power, Ramp};
 use crate::refusal::Refusal;
 
 // A reading as it is handed over. The floats are megawatts, the ramps megawatts a minute; the energy maximum is in kilowatts. UIGF is the forecast of a semi-scheduled unit.
-#[derive(Clone, Copy)]
+#[derive(Clone, Copy, Debug, PartialEq)]
 pub struct Reading {
     pub initial: f64,
     pub agc_lower: Option<f64>,

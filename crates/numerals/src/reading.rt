@@ -12,8 +12,7 @@ fn appended(number: u64, byte: u8) -> Option<u64>
 
 // A whole number of decimal digits, below 2^64.
 pub fn whole(word: &[u8]) -> Option<u64>
-    ensures value { result ≡ whole_of word.now }
-    ensures kept { word.exit.now ≡ word.entry.now }
+    ensures { result ≡ whole_of word.now }
 {
     let mut number = 0u64;
     for byte in word {

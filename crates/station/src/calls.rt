@@ -129,7 +129,7 @@ impl<P: PlantLimit> Station<P> {
 
     // The figure of a service at the energy that is held, live or not.
     pub fn figure(&self, pass: &Pass, service: u32) -> Result<Figure, Refusal>
-        ensures { Turn P.PlantLimit.allowed self.entry.now (Figures pass.now.numbers service) (figured result) self.exit.now }
+        ensures { Turn P.PlantLimit.allowed self.now (Figures pass.now.numbers service) (figured result) self.now }
     {
         let service = Service::try_from(service)?;
         let unit = self.find(pass)?;
@@ -139,7 +139,7 @@ impl<P: PlantLimit> Station<P> {
 
     // The figure of a live service at another energy.
     pub fn probe(&self, pass: &Pass, service: u32, energy: u32) -> Result<Option<Figure>, Refusal>
-        ensures { Turn P.PlantLimit.allowed self.entry.now (Probe pass.now.numbers service energy) (probed_by result) self.exit.now }
+        ensures { Turn P.PlantLimit.allowed self.now (Probe pass.now.numbers service energy) (probed_by result) self.now }
     {
         let service = Service::try_from(service)?;
         let energy = Power::try_from(energy)?;
@@ -149,7 +149,7 @@ impl<P: PlantLimit> Station<P> {
 
     // The five effective numbers of a service.
     pub fn trapezium(&self, pass: &Pass, service: u32) -> Result<Option<Trapezium>, Refusal>
-        ensures { Turn P.PlantLimit.allowed self.entry.now (Scales pass.now.numbers service) (scaled result) self.exit.now }
+        ensures { Turn P.PlantLimit.allowed self.now (Scales pass.now.numbers service) (scaled result) self.now }
     {
         let service = Service::try_from(service)?;
         let unit = self.find(pass)?;
