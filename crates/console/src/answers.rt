@@ -21,10 +21,21 @@ fn put_signed(text: &[u8], number: i64, out: &mut Vec<u8>) -> Result<(), AllocEr
     put_number(number.unsigned_abs(), out)
 }
 
+// Three numbers, with a sign between them.
+fn put_three(
+    text: &[u8],
+    numbers: [u64; 3],
+    sign: &[u8],
+    out: &mut Vec<u8>,
+) -> Result<(), AllocError> {
+    let [first, second, third] = numbers;
+    put(text, first, out)?;
+    put(sign, second, out)?;
+    put(sign, third, out)
+}
+
 fn put_pass(pass: &PassNumbers, out: &mut Vec<u8>) -> Result<(), AllocError> {
-    put(b" pass ", pass.station, out)?;
-    put(b":", pass.unit, out)?;
-    put(b":", pass.serial, out)
+    put_three(b" pass ", [pass.station, pass.unit, pass.serial], b":", out)
 }
 
 // The limit that holds a figure down, or that broke.
@@ -39,11 +50,13 @@ fn put_figure(figure: &Figure, out: &mut Vec<u8>) -> Result<(), AllocError> {
 }
 
 // A figure as one of ten, in one word.
-// Its parts have other widths than those of a pass, so that a shared function would take them widened, in an array.
 fn put_figure_word(figure: &Figure, out: &mut Vec<u8>) -> Result<(), AllocError> {
-    put(b" ", figure.figure, out)?;
-    put(b"/", figure.ground, out)?;
-    put(b"/", figure.by, out)
+    let numbers = [
+        u64::from(figure.figure),
+        u64::from(figure.ground),
+        u64::from(figure.by),
+    ];
+    put_three(b" ", numbers, b"/", out)
 }
 
 fn put_figures(table: &[Figure; 10], out: &mut Vec<u8>) -> Result<(), AllocError> {
