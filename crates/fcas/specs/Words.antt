@@ -22,12 +22,14 @@ service_name Lower60Sec = codes "LOWER60SEC"
 service_name Lower5Min = codes "LOWER5MIN"
 service_name LowerReg = codes "LOWERREG"
 
+-- What a kind is called.
 abbrev pub kind_words : Kind → List ℕ
 kind_words Generator = codes "scheduled generator"
 kind_words SemiScheduled = codes "semi-scheduled generator"
 kind_words Load = codes "scheduled load"
 kind_words DemandResponse = codes "wholesale demand response unit"
 
+-- What keeps a service out.
 abbrev pub ground_words : Ground → List ℕ
 ground_words NoBid = codes "no bid"
 ground_words NoAvailability = codes "effective max availability is 0"
@@ -36,6 +38,7 @@ ground_words EnergyMaxTooLow = codes "available energy is below enablement min"
 ground_words OutsideEnablement = codes "initial is outside the enablement limits"
 ground_words AgcIsOff = codes "AGC is off"
 
+-- Why what was handed over is not taken.
 abbrev pub refusal_words : Refusal → List ℕ
 refusal_words KindUnknown = codes "a kind is at most 3"
 refusal_words ServiceUnknown = codes "a service is at most 9"

@@ -137,6 +137,7 @@ impl CheckedTerms {
             .get(service as usize)
             .copied()
             .unwrap_or(NO_OFFER);
+        // The one bound that the figures' proof reads of an offer.
         prove!(offer.max_availability.get() <= 4_000_000);
         offer
     }

@@ -184,7 +184,7 @@ impl CheckedTerms {
         self.narrow(row, Limit::RampDown, number, best)
     }
 
-    // The same of all ten services, in one pass over the limits.
+    // The same of all ten services, in one pass over the limits. Apart from `least`, since a probe wants one, and this does the work of several.
     pub(crate) fn least_of_all(&self, row: &CheckedRow) -> Option<[Best; 10]>
         ensures { LeastOfAll self.now.terms row.now.row result }
     {

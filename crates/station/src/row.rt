@@ -13,6 +13,7 @@ use states::State;
 pub struct UnitRow {
     pub(crate) state: State,
     pub(crate) kind: Kind,
+    // A place for each service here, in the amounts and in the terms: a plain row is wanted, and the book reads each by itself.
     pub(crate) bids: [Option<CheckedBid>; 10],
     pub(crate) reading: CheckedReading,
     pub(crate) amounts: [u32; 10],
@@ -20,6 +21,7 @@ pub struct UnitRow {
     pub(crate) terms: CheckedTerms,
     ghost ten_bids: { length bids ≡ 10 },
     ghost ten_amounts: { length amounts ≡ 10 },
+    // Not by a Power in the state, which is public and takes any number.
     ghost energy_in_range: { energy_of state ≤ 4000000 },
     ghost amounts_in_range: { some_above 4000000 amounts ≡ false },
     ghost fixed: { holds_open state ≡ true → ∥ terms.terms ≡ terms_of kind (held_bids bids) reading.measured ∥₁ },
