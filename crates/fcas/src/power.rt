@@ -28,6 +28,7 @@ pub type Power = UpTo<4_000_000>;
 // A ramp in kilowatts a minute.
 pub type Ramp = UpTo<800_000>;
 
+// No power at all, as of a service that is not bid.
 pub const NO_POWER: Power = UpTo { number: 0 };
 
 impl<const MOST: u32> UpTo<MOST> {
