@@ -63,11 +63,7 @@ fn report(
 
 fn main(rt: HostRuntime) -> io::Result<()> {
     let mut station = Station::new(1, 0, Bare);
-    let mut table = [Figure {
-        figure: 0,
-        ground: 0,
-        by: 0,
-    }; 10];
+    let mut table = [Figure::default(); 10];
     if let Err(refusal) = enrol(&mut station) {
         println!(rt; "not enrolled: {}", refusal.number())?;
     }
