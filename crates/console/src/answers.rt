@@ -1,5 +1,5 @@
 // An answer of the station to the bytes of its line.
-// Bytes by hand: with `write!` 20,000 random calls took 76.6 million instructions, and so they took 62.8.
+// Bytes by hand: counted side by side, 20,000 random calls took 76.6 million instructions with `write!`, and 62.8 so.
 use fcas::Trapezium;
 use limits::Figure;
 use numerals::put_number;
@@ -38,7 +38,7 @@ fn put_pass(pass: &PassNumbers, out: &mut Vec<u8>) -> Result<(), AllocError> {
     put_three(b" pass ", [pass.station, pass.unit, pass.serial], b":", out)
 }
 
-// The limit that holds a figure down, or that broke.
+// The limit that holds a figure down, or that broke, by the two numbers of its record.
 fn put_ground(ground: u8, by: u8, out: &mut Vec<u8>) -> Result<(), AllocError> {
     put(b" ground ", ground, out)?;
     put(b" by ", by, out)

@@ -56,7 +56,7 @@ impl From<Refusal> for Trouble {
     }
 }
 
-// By hand, since the derive cannot name the refusal's number before its words.
+// By hand: the derive was tried, and takes no result of a method beside the value that it is of.
 impl fmt::Display for Trouble {
     fn fmt<W: fmt::Write>(&self, f: &mut fmt::Formatter<W>) -> fmt::Result {
         match self {

@@ -22,7 +22,7 @@ fn put_figure(service: Service, held: u32, figure: &Figure, out: &mut Vec<u8>) -
     writeln!(out, ", by {}", NamedBy(figure.by))
 }
 
-// The ten figures of a row, or the first limit that it breaks.
+// The ten figures of a row, or the first limit that it breaks. Terms, row and plant are three parameters here, as in `limits`.
 pub(crate) fn put_figures(
     terms: &CheckedTerms,
     row: &CheckedRow,

@@ -166,6 +166,7 @@ pub fn run<S: Session, R: Read, W: Write>(
     let mut buffer = [0u8; CHUNK];
     let mut partial = Partial::new(heap)?;
     let mut out = Vec::with_capacity(heap, CHUNK)?;
+    // A loop that ends, as in `read_chunk`.
     for _ in 0..u64::MAX {
         let chunk = read_chunk(input, &mut buffer)?;
         if chunk.is_empty() {

@@ -39,7 +39,7 @@ fn is_off(status: AgcStatus) -> bool
 }
 
 impl Ground {
-    // A method, since `u8::from` would not say that it is the rules' number.
+    // By this name it is the number of the rules, which `u8::from(ground)` would not say.
     pub fn number(self) -> u8
         ensures { result ≡ ground_number self }
     {

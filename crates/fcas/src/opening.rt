@@ -55,7 +55,7 @@ impl Opening {
         in_five_minutes(self.reading.measured.ramp_up)
     }
 
-    // What the ramp downward gives in it.
+    // What the ramp downward gives in it: the same of another field, one line each.
     pub fn fall(&self) -> Option<Power>
         ensures { result ≡ option_map (λ each. 5 * each) (unless_zero self.now.reading.measured.ramp_down) }
     {

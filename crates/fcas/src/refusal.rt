@@ -18,7 +18,7 @@ pub enum Refusal {
 }
 
 impl Refusal {
-    // A method, since `u8::from` would not say that it is the rules' number.
+    // By this name it is the number of the rules, which `u8::from(refusal)` would not say.
     pub fn number(self) -> u8
         ensures { result ≡ refusal_number self }
     {

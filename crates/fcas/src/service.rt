@@ -36,7 +36,7 @@ pub const SERVICES: [Service; 10] = [
 ];
 
 impl Service {
-    // A method, since `u8::from` would not say that it is the rules' number.
+    // By this name it is the number of the rules, which `u8::from(service)` would not say.
     pub fn number(self) -> u8
         ensures value { result ≡ service_number self }
         ensures one_of_ten { result < 10 }

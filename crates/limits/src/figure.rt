@@ -13,7 +13,7 @@ use crate::terms::CheckedTerms;
 use fcas::{Kind, NO_POWER, SERVICES, Service};
 
 // How much of a service can be given, and the limit that holds it down, by its ground and the service that it is named by.
-// The ground and the service are the record's numbers as the rules write them, which a host stores and reads.
+// The rules make the record of three numbers (docs/RULES.md): an enum of limits and grounds would have to hold the unit's kind to say by which.
 #[derive(Clone, Copy, Debug, PartialEq, Eq, Default)]
 pub struct Figure {
     pub figure: u32,

@@ -57,7 +57,7 @@ impl Limit {
         ]
     }
 
-    // The number of the limit in the rules: a method, since two limits share one and it converts nothing back.
+    // The number of the limit in the rules, by that name: beside `by` it names the limit, which `u8::from` would not say.
     pub fn number(self) -> u8
         ensures { result ≡ limit_number self }
     {
@@ -109,7 +109,7 @@ fn upper_sides(offer: &Offer, energy: i64, amount: Power) -> Sides
     }
 }
 
-// The sides of a lower limit at an energy.
+// The sides of a lower limit at an energy: the mirror of the upper, of which each sign and side is another.
 fn lower_sides(offer: &Offer, energy: i64, amount: Power) -> Sides
     requires { Moved energy }
     ensures value { result ≡ lower_sides offer.now energy amount }
@@ -158,7 +158,7 @@ impl CheckedTerms {
         i64::from(row.row.energy) + i64::from(row.amount(self.terms.kind.upward().number()).get())
     }
 
-    // The energy with the downward amount taken away.
+    // The energy with the downward amount taken away: one function of a direction would be two matches.
     fn lowered(&self, row: &CheckedRow) -> i64
         ensures value { result ≡ lowered_energy self.now.terms row.now.row }
         ensures bound { Moved result }
@@ -214,7 +214,7 @@ impl CheckedTerms {
         i64::from(self.terms.initial) + i64::from(rise.get())
     }
 
-    // What the ramp downward reaches.
+    // What the ramp downward reaches: the other sign, and one line of its own.
     fn lowest(&self, fall: Power) -> i64
         ensures value { result ≡ self.now.terms.initial -ℤ pos fall }
         ensures bound { Moved result }
@@ -275,7 +275,7 @@ impl CheckedTerms {
     }
 
     // The first limit of a service that breaks.
-    // Nested loops left by a label are the project's form of this search.
+    // Nested loops left by a label are the project's rule for this search (docs/DECISIONS.md).
     fn first_of_services(&self, row: &CheckedRow) -> Option<Limit>
         ensures { FindsBefore 30 (λ limit. exceeded (sides_of self.now.terms row.now.row limit)) result }
     {

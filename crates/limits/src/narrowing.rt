@@ -105,6 +105,7 @@ fn joint(kind: Kind, limit: Limit) -> Option<u8>
 fn narrow_place(best: &mut [Best; 10], service: u8, cap: Option<u32>, limit: Limit)
     ensures { (s : ℕ) → s < 10 → slice_index_or best.new s no_best ≡ (if nat_eq s service then narrowed_to (slice_index_or best.old s no_best) cap limit else slice_index_or best.old s no_best) }
 {
+    // A test, since a call for the plant has no place; with `get_mut` the proof did not close.
     if service > 9 {
         return;
     }

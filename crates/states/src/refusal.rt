@@ -21,7 +21,7 @@ pub enum Refusal {
     PassUnknown,
     NoEnergy,
     NotLive,
-    // By the numbers of the rules, as a host stores and reads them.
+    // The rules say of this refusal two numbers, its ground and by (docs/RULES.md).
     LimitBroken { ground: u8, by: u8 },
 }
 
@@ -36,7 +36,7 @@ impl Refusal {
         }
     }
 
-    // A method, since `u8::from` would not say that it is the rules' number.
+    // By this name it is the number of the rules, which `u8::from(refusal)` would not say.
     pub fn number(self) -> u8
         ensures { result ≡ (told self).number }
     {

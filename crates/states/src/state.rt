@@ -44,7 +44,7 @@ impl State {
             (State::Idle, Event::Retire) => Ok(State::Vacant),
             (State::Idle, Event::Rebid) => Ok(State::Idle),
             (State::Idle, Event::Open { serial }) => Ok(State::Open { serial }),
-            // Two arms: an or-pattern that binds the serial of either gets no generated proof.
+            // Two arms: within a pair the checker does not cover an or-pattern that binds the serial of either.
             (State::Open { serial }, Event::Energy { energy }) => {
                 Ok(State::OpenWithEnergy { serial, energy })
             }

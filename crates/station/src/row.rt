@@ -13,7 +13,7 @@ use states::State;
 pub struct UnitRow {
     pub(crate) state: State,
     pub(crate) kind: Kind,
-    // A place for each service here, in the amounts and in the terms: a plain row is wanted, and the book reads each by itself.
+    // Ten bids here and ten amounts below, not ten of both: opening takes the bids whole, and a plant's row the amounts.
     pub(crate) bids: [Option<CheckedBid>; 10],
     pub(crate) reading: CheckedReading,
     pub(crate) amounts: [u32; 10],
