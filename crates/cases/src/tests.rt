@@ -64,8 +64,11 @@ fn trapezium(
     availability: u32,
     reading: &Reading,
 ) -> Result<Trapezium, Refusal> {
-    let (opening, service, bid) = checked(kind, service, availability, reading)?;
-    Ok(Trapezium::new(&opening, service, &bid))
+    // Matches, here and below: the checker does not cover `?` on what holds a reading beside more.
+    match checked(kind, service, availability, reading) {
+        Ok((opening, service, bid)) => Ok(Trapezium::new(&opening, service, &bid)),
+        Err(refusal) => Err(refusal),
+    }
 }
 
 // The number of the ground against a service, 0 where it is live, and that of the refusal where something is refused.
@@ -83,8 +86,10 @@ fn find_ground(
     availability: u32,
     reading: &Reading,
 ) -> Result<Option<Ground>, Refusal> {
-    let (opening, service, bid) = checked(kind, service, availability, reading)?;
-    Ok(Ground::against(&opening, service, Some(&bid)))
+    match checked(kind, service, availability, reading) {
+        Ok((opening, service, bid)) => Ok(Ground::against(&opening, service, Some(&bid))),
+        Err(refusal) => Err(refusal),
+    }
 }
 
 #[test]
