@@ -15,11 +15,7 @@ loop-front-preserved c =
       omega (arith, i.4),
     )
 
-pub returns : goal.returns
-returns c =
+pub returns-clause-spelled : goal.returns-clause-spelled
+returns-clause-spelled c =
     let i = c.loop-front.invariant in
-    record {
-      begins = i.0;
-      places = search rules;
-      spelled = all_places _ _ _ _ _ (omega (arith, c.ranges.number)) c.loop-front-test.false i.0 i.3 c.last_digit-2.ensures i.2;
-    }
+    all_places _ _ _ _ _ (omega (arith, c.ranges.number)) c.loop-front-test.false i.0 i.3 c.last_digit-2.ensures i.2
