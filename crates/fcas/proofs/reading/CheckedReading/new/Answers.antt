@@ -2,9 +2,6 @@ use Rattle.std.proofs.Common.{sym, arith}
 use Rattle.fcas.proofs.InRange.{parts, power_if, ramp_if, ramp_in_range}
 use Rattle.fcas.proofs.reading.CheckedReading.new.Goals as goal
 
-pub kilowatts-requires : goal.kilowatts-requires
-kilowatts-requires c = (parts c.args.reading.now (sym c.if-not-is_in_range.ensures)).initial
-
 pub kilowatts_if_present-requires : goal.kilowatts_if_present-requires
 kilowatts_if_present-requires c =
     let p = (parts c.args.reading.now (sym c.if-not-is_in_range.ensures)).lower in
