@@ -1,4 +1,4 @@
-use Rattle.std.proofs.Common.{◌≡◌, ℕ, ◌<◌, ◌≤◌, Bool, false, length, sym, ap, ◌∙◌, subst, zero-le, arith, rules}
+use Rattle.std.proofs.Common.{◌≡◌, ℕ, ◌<◌, ◌≤◌, Bool, length, sym, ap, ◌∙◌, subst, zero-le, arith, rules}
 use Rattle.limits.specs.Figure.{breaks_with}
 use Rattle.limits.specs.Limit.{Borne, breaks}
 use Rattle.limits.specs.Narrowing.{Held, exceeded_with}
