@@ -1,5 +1,4 @@
 pub mod InBounds
-mod Products
 mod Orders
 mod Live
 mod Breaks

@@ -20,7 +20,3 @@ module _ (kind : Kind) (m : Measured) where
       (offers_are (suc start) bs os (omega (arith, e)) (λ s l.
       let next : start + suc s ≡ suc start + s = omega arith in
       each (suc s) (omega arith) ∙ ap (λ (n : ℕ). offer_of kind m n (option_map (λ checked. checked.bid) (get_or bs s None))) next))
-
--- the offer of a bid that is read at its own place
-pub of_place : (kind : Kind) (m : Measured) (n k : ℕ) (offer : Offer) (x y : Option CheckedBid) → offer ≡ offer_of kind m n (option_map (λ checked. checked.bid) x) → n ≡ k → x ≡ y → offer ≡ offer_of kind m k (option_map (λ checked. checked.bid) y)
-of_place kind m n k offer x y e f h = e ∙ ap (λ (i : ℕ). offer_of kind m i (option_map (λ checked. checked.bid) x)) f ∙ ap (λ (b : Option CheckedBid). offer_of kind m k (option_map (λ checked. checked.bid) b)) h

@@ -28,9 +28,6 @@ at_place RampUp s i d m h e = absurd (omega arith)
 at_place RampDown s i d m h e = absurd (omega arith)
 at_place Plant s i d m h e = absurd (omega arith)
 
-pub below_none : (f : Limit → Bool) → Below f 0
-below_none f limit h = absurd (omega (arith, h))
-
 -- one limit of a service more
 pub below_more : (f : Limit → Bool) (limits : List Limit) (s i : ℕ) (d : Limit) → limits ≡ limits_of s → s < 10 → i < 3 → Below f (3 * s + i) → f (get_or limits i d) ≡ false → Below f (3 * s + (i + 1))
 below_more f limits s i d these m h below here limit l =

@@ -1,7 +1,7 @@
 -- Digits read one after another.
 use Rattle.std.proofs.Common.{◌≡◌, ℕ, ◌+◌, ◌-◌, ◌*◌, ◌^◌, ◌<◌, ◌≤◌, Bool, true, false, cond, ltb, List, [], ◌∷◌, length, get_or, drop, Some, None, Option, sym, refl, ap, ◌∙◌, arith}
-use Rattle.std.proofs.lemmas.List.{drop_all, drop_more}
-use Rattle.std.proofs.lemmas.Bool.{cond-true, cond-false, le-ltb, lt-ltb}
+use Rattle.std.proofs.lemmas.List.{drop_more}
+use Rattle.std.proofs.lemmas.Bool.{cond-true, cond-false, le-ltb}
 use Rattle.std.specs.Char.{is_ascii_digit}
 use Rattle.std.proofs.lemmas.Bool.Decides.{nat_tests}
 use Rattle.numerals.specs.Numerals.{in_word, is_digit, spelled_from, whole_of}
@@ -20,9 +20,6 @@ one n i word l = ap (spelled_from n) (drop_more word i 0 l)
 pub digit : (n i : ℕ) (word : List ℕ) → i < length word → true ≡ is_ascii_digit (get_or word i 0) → spelled_from 0 word ≡ spelled_from n (drop i word) → spelled_from 0 word ≡ spelled_from (more n (get_or word i 0)) (drop (i + 1) word)
 digit n i word l d e = e ∙ one n i word l ∙ cond-true (is_digit (get_or word i 0)) _ _ (sym (d ∙ same_digit (get_or word i 0)))
 
-pub no_digit : (n i : ℕ) (word : List ℕ) → i < length word → false ≡ is_ascii_digit (get_or word i 0) → spelled_from 0 word ≡ spelled_from n (drop i word) → None ≡ whole_of word
-no_digit n i word l d e = sym (ap in_word (e ∙ one n i word l ∙ cond-false (is_digit (get_or word i 0)) _ _ (sym (d ∙ same_digit (get_or word i 0)))))
-
 next_large : (d : Bool) (o : Option ℕ) → in_word o ≡ None → in_word (cond d o None) ≡ None
 next_large true o e = e
 next_large false o e = refl
@@ -37,9 +34,3 @@ is_large m h = grind (arith, nat_tests)
 
 pub overflow : (n i : ℕ) (word : List ℕ) → i < length word → true ≡ is_ascii_digit (get_or word i 0) → spelled_from 0 word ≡ spelled_from n (drop i word) → None ≡ in_word (Some (more n (get_or word i 0))) → None ≡ whole_of word
 overflow n i word l d e h = sym (ap in_word (digit n i word l d e) ∙ too_large (more n (get_or word i 0)) (drop (i + 1) word) (is_large (more n (get_or word i 0)) h))
-
-pub fits : (m k : ℕ) → Some k ≡ in_word (Some m) → (k ≡ m) × (k < 2 ^ 64)
-fits m k h = grind (arith, nat_tests)
-
-pub whole_is : (n i : ℕ) (word : List ℕ) → length word ≤ i → n < 2 ^ 64 → spelled_from 0 word ≡ spelled_from n (drop i word) → Some n ≡ whole_of word
-whole_is n i word l m e = sym (ap in_word (e ∙ ap (spelled_from n) (drop_all i word l)) ∙ cond-true (ltb n (2 ^ 64)) (Some n) None (lt-ltb n (2 ^ 64) m))

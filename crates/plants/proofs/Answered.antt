@@ -1,6 +1,5 @@
 -- The greatest amount that passes, of tests that are made from others.
-use Rattle.std.proofs.Common.{◌≡◌, ℕ, ◌<◌, ◌≤◌, List, length, get_or, Bor, min, ℤ, pos, int_le, Bool, true, false, ◌&&◌, Some, None, Option, sym, ap, ◌∙◌, arith, w64, SFits, to_z, of_z}
-use Rattle.std.specs.Bool.{then_some}
+use Rattle.std.proofs.Common.{◌≡◌, ℕ, ◌<◌, ◌≤◌, List, length, get_or, Bor, min, ℤ, pos, int_le, Bool, true, ◌&&◌, Some, None, Option, sym, ap, ◌∙◌, arith, w64, SFits, to_z, of_z}
 use Rattle.std.specs.Option.{option_copied}
 use Rattle.std.specs.Slice.{IsItemAt}
 use Rattle.std.proofs.lemmas.Int.{to_z-of_z}
@@ -23,11 +22,6 @@ both_most p q f g m n r e h k = record {
 -- the same for a room that went through 64 bits
 pub greatest_of_room : (q : ℕ → Bool) (s : ℕ) (found : Option ℕ) (room z : ℤ) → SFits w64 room → room ≡ z → ((a : ℕ) → int_le (pos a) z ≡ q a) → Greatest (λ a. int_le (pos a) (to_z w64 (of_z w64 room))) s found → Greatest q s found
 greatest_of_room q s found room z fits e same h = greatest_same (λ a. int_le (pos a) (to_z w64 (of_z w64 room))) q (λ a. ap (λ (x : ℤ). int_le (pos a) x) (to_z-of_z w64 room fits ∙ e) ∙ same a) s found h
-
--- a test that the amount does not alter
-pub greatest_or_none : (p : ℕ → Bool) (b : Bool) (s : ℕ) → s ≤ 9 → ((a : ℕ) → b ≡ p a) → Greatest p s (then_some b 4000000)
-greatest_or_none p true s l e = (l, record { within = omega arith; here = sym (e 4000000); most = λ b m h. m })
-greatest_or_none p false s l e = λ k. sym (e 0)
 
 -- an element that `get` found
 pub element : (xs : List ℕ) (i j a : ℕ) (r : Option (Bor ℕ)) → IsItemAt xs j r → j ≡ i → option_copied r ≡ Some a → (i < length xs) × (a ≡ get_or xs i 0)

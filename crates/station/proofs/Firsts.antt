@@ -1,12 +1,7 @@
 -- The first fault of a list that is made of parts, and the refusal that says it.
-use Rattle.std.proofs.Common.{◌≡◌, ℕ, Bool, true, false, cond, List, [], ◌∷◌, ◌++◌, IsErrAnd, Some, None, Ok, Err, Option, Result, sym, refl, ap, ◌∙◌, arith}
-use Rattle.std.specs.Option.{option_map}
+use Rattle.std.proofs.Common.{◌≡◌, ℕ, Bool, true, false, cond, List, [], ◌∷◌, ◌++◌, IsErrAnd, Some, None, Ok, Err, Option, Result, refl, ap, arith}
 use Rattle.fcas.specs.Checks.{Finding, first_of}
-use Rattle.station.specs.Entry.{Entry}
-use Rattle.station.specs.Lent.{Lent}
-use Rattle.states.specs.Refusal.{Told, plain, told}
 use Rattle.states.specs.declared.refusal.Refusal.{Refusal}
-use Rattle.station.specs.declared.row.UnitRow.{UnitRow}
 
 skip : (b : Bool) (n : ℕ) (x y z : Option ℕ) → cond b (Some n) x ≡ None → (x ≡ None → y ≡ z) → cond b (Some n) y ≡ z
 skip true n x y z e f = let clash : ◌≡◌ {A = ℕ} 0 1 = cc in absurd (omega arith)
@@ -28,8 +23,3 @@ first_stop (x ∷ xs) ys n e = stop x.1 x.0 n (first_of xs) (first_of (xs ++ ys)
 pub handed_on : {X : Type 0} (r : Result X Refusal) (refusal : Refusal) → IsErrAnd r (λ e. e ≡ refusal) → r ≡ Err refusal
 handed_on (Ok x) refusal e = elim e [ ]
 handed_on {X} (Err y) refusal e = ap {B = Result X Refusal} Err e
-
--- what `?` makes of a refusal with this number
-pub refuses_by : {X : Type 0} (faults : List Finding) (writes : Option Entry) (row : UnitRow) (r : Result X Refusal) (n : ℕ) → IsErrAnd r (λ refusal. told refusal ≡ plain n) → first_of faults ≡ Some n → Lent faults writes row row r
-refuses_by faults writes row (Ok x) n said first = elim said [ ]
-refuses_by faults writes row (Err refusal) n said first = (ap (option_map plain) first ∙ ap {B = Option Told} Some (sym said), refl)

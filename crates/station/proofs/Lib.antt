@@ -1,6 +1,5 @@
 mod Rows
 mod Firsts
-mod Opens
 mod Held
 mod Turns
 mod Passes

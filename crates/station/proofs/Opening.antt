@@ -1,5 +1,5 @@
 -- The call that opens an interval.
-use Rattle.std.proofs.Common.{◌≡◌, ℕ, ◌+◌, ◌<◌, Bool, false, List, ◌++◌, length, get_or, set, IsErrAnd, Some, None, Option, Result, sym, refl, ap, ◌∙◌, subst}
+use Rattle.std.proofs.Common.{◌≡◌, ℕ, ◌+◌, ◌<◌, Bool, false, eqb, List, [], ◌∷◌, ◌++◌, length, get_or, set, IsErrAnd, Some, None, Option, Result, sym, refl, ap, ◌∙◌, subst}
 use Rattle.std.specs.Option.{option_map}
 use Rattle.fcas.specs.Checks.{Finding, first_of}
 use Rattle.fcas.specs.Reading.{measured_of, reading_faults}
@@ -7,7 +7,7 @@ use Rattle.fcas.specs.declared.reading.Measured.{Measured}
 use Rattle.fcas.specs.declared.reading.Reading.{Reading}
 use Rattle.limits.specs.declared.row.Row.{Row}
 use Rattle.station.specs.Book.{checks, raised, unit_at, unit_faults}
-use Rattle.station.specs.Entry.{Entry, opened, with_interval}
+use Rattle.station.specs.Entry.{Entry, idle_faults, open_faults, opened, with_interval}
 use Rattle.station.specs.Lent.{Refuses}
 use Rattle.states.specs.Refusal.{plain, told}
 use Rattle.station.specs.Turn.{Turn, opened_by}
@@ -22,8 +22,10 @@ use Rattle.station.specs.declared.row.UnitRow.{UnitRow}
 use Rattle.station.specs.declared.station.Station.{Station}
 use Rattle.station.proofs.ByPass.{same_told}
 use Rattle.station.proofs.Firsts.{first_skip, first_stop}
-use Rattle.station.proofs.Opens.{faults_of}
 use Rattle.station.proofs.Turns.{by_refusal, heeded, lent_same, lent_view, none_breaks, unit_is, with_rows}
+
+abbrev pub faults_of : Measured → ℕ → Option Entry → List Finding
+faults_of reading next unit = idle_faults unit ++ open_faults reading unit ++ ((25, eqb next 18446744073709551615) ∷ [])
 
 module _ {P : Type 0} (allowed : P → Row → Bool) (s : Station P) (u : ℕ) (reading : Reading) (number : first_of (unit_faults u) ≡ None) where
   abbrev rest : List Finding

@@ -1,6 +1,6 @@
 -- Whether a pass is known.
 use Rattle.std.proofs.Common.{◌≡◌, ℕ, zero, suc, ◌<◌, ◌≤◌, Bool, true, false, cond, not, ◌&&◌, eqb, List, [], ◌∷◌, length, get_or, Some, None, Option, refl, ap, ◌∙◌, arith}
-use Rattle.std.proofs.lemmas.Bool.{eq-eqb, ne_eqb}
+use Rattle.std.proofs.lemmas.Bool.{eq-eqb}
 use Rattle.fcas.specs.Checks.{first_of}
 use Rattle.station.specs.Book.{Book, pass_faults, unit_at}
 use Rattle.station.specs.Entry.{Entry, Interval, is_open, is_under}
@@ -26,9 +26,6 @@ module _ (number : ℕ) (rows : List UnitRow) (pass : PassNumbers) where
 
   abbrev under : Bool
   under = is_under pass.serial (unit_at book pass.unit)
-
-  pub other_station : (pass.station ≡ number → ⊥) → first_of (pass_faults book pass) ≡ Some 28
-  other_station ne = check_is (eqb pass.station number) under ∙ rw (ne_eqb pass.station number ne) refl
 
   not_under : (b : Bool) → under ≡ false → first_of ((28, not (b && under)) ∷ []) ≡ Some 28
   not_under true e = rw e refl

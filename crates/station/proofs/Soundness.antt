@@ -1,15 +1,14 @@
 -- Every past is sound.
-use Rattle.std.proofs.Common.{◌≡◌, ℕ, zero, suc, ◌<◌, Bool, List, [], ◌∷◌, ◌++◌, length, get_or, take, replicate, None, Option, sym, refl, ap, ◌∙◌, subst, arith}
+use Rattle.std.proofs.Common.{◌≡◌, ℕ, zero, suc, ◌<◌, Bool, List, [], ◌∷◌, ◌++◌, length, get_or, take, replicate, None, Option, sym, refl, ◌∙◌, subst, arith}
 use Rattle.limits.specs.declared.row.Row.{Row}
 use Rattle.station.specs.Book.{Bears, Book, after, blank, book_after}
 use Rattle.station.specs.Entry.{BearsRow, Entry}
 use Rattle.station.specs.Right.{Right}
 use Rattle.station.specs.Sound.{Follows, Lawful, Made, Past, Sound, calls_of, upon}
 use Rattle.station.specs.Turn.{Turn}
-use Rattle.station.specs.View.{entries_of, entry_of, view_of}
+use Rattle.station.specs.View.{view_of}
 use Rattle.station.specs.declared.call.Answer.{Answer}
 use Rattle.station.specs.declared.call.Call.{Call}
-use Rattle.station.specs.declared.row.UnitRow.{UnitRow}
 use Rattle.station.specs.declared.station.Station.{Station}
 use Rattle.station.proofs.Bearing.{bears_after, rests}
 
@@ -26,10 +25,6 @@ made_sound allowed number first limit s made = record {
   answers = tt;
   borne = λ u. subst (BearsRow (allowed limit) u) (sym (no_unit 24 u)) tt;
 }
-
-pub vacant_rows : (n : ℕ) (row : UnitRow) → entry_of row ≡ None → entries_of (replicate n row) ≡ replicate n None
-vacant_rows zero row e = refl
-vacant_rows (suc n) row e = ap (λ (x : Option Entry). x ∷ entries_of (replicate n row)) e ∙ ap (λ (xs : List (Option Entry)). None ∷ xs) (vacant_rows n row e)
 
 -- one call more
 pub follows : {P : Type 0} (allowed : P → Row → Bool) (s : Station P) (call : Call) (answer : Answer) (next : Station P) → Turn allowed s call answer next → Follows allowed s call answer next

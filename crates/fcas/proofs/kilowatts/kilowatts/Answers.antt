@@ -1,5 +1,5 @@
-use Rattle.std.proofs.Common.{◌≡◌, true, false, T, ℤ, pos, negsuc, ◌≤ℤ◌, sym, ap, ◌∙◌, subst, arith, w32, w64, SFits, to_z, of_z}
-use lib.Ieee.{Float, le, lt, fin, to_signed}
+use Rattle.std.proofs.Common.{◌≡◌, true, false, T, ℤ, pos, negsuc, ◌≤ℤ◌, sym, ap, ◌∙◌, subst, arith, w32, w64, SFits, to_z, of_z, rules}
+use lib.Ieee.{Float, le, lt, fin}
 use Rattle.std.proofs.lemmas.Int.{ints}
 use Rattle.fcas.specs.Kilowatts.{nearest_whole, thousandfold, kilowatts_of}
 use Rattle.fcas.proofs.Ranges.{kilowatts_bounded, kilowatts_castable}
@@ -25,17 +25,8 @@ truncating_f64_to_i64-requires c =
 
 pub overflow_cast-result : goal.overflow_cast-result
 unfolding kilowatts_of
-overflow_cast-result c =
-    let b = kilowatts_bounded c.args.megawatts c.requires in
-    fitting c.truncating_f64_to_i64.result (kilowatts_of c.args.megawatts) (c.truncating_f64_to_i64.ensures ∙ ap (to_signed 63) (whole _ _ _ c.nearest_whole.ensures c.thousandfold.ensures)) b.0 b.1
+overflow_cast-result c = search (rules, kilowatts_bounded, fitting)
 
 pub returns : goal.returns
 unfolding kilowatts_of
-returns c =
-    let b = kilowatts_bounded c.args.megawatts c.requires in
-    let e = settled c.truncating_f64_to_i64.result (kilowatts_of c.args.megawatts) (c.truncating_f64_to_i64.ensures ∙ ap (to_signed 63) (whole _ _ _ c.nearest_whole.ensures c.thousandfold.ensures)) b.0 b.1 in
-    record {
-      value = e;
-      low = subst (λ (z : ℤ). negsuc 3999999 ≤ℤ z) (sym e) b.0;
-      high = subst (λ (z : ℤ). z ≤ℤ pos 4000000) (sym e) b.1;
-    }
+returns c = search (rules, kilowatts_bounded, settled)

@@ -1,5 +1,4 @@
-use Rattle.std.proofs.Common.{◌≡◌, ℕ, ◌≤◌, T, ℤ, pos, nat_abs, sym, ap, ◌∙◌, subst, arith, w32, Fits, to_z, of_z, rules}
-use lib.Signed.{non_neg}
+use Rattle.std.proofs.Common.{◌≡◌, ℕ, ◌≤◌, ℤ, pos, arith, w32, Fits, to_z, of_z, rules}
 use Rattle.std.proofs.lemmas.Int.{ints}
 use Rattle.fcas.proofs.Ranges.{power_in_widest, unsigned_power}
 use Rattle.fcas.proofs.kilowatts.unsigned_kilowatts.Goals as goal
@@ -14,13 +13,4 @@ pub kilowatts-requires : goal.kilowatts-requires
 kilowatts-requires c = power_in_widest c.args.megawatts c.requires
 
 pub overflow_cast-result : goal.overflow_cast-result
-overflow_cast-result c =
-    let p = unsigned_power c.args.megawatts c.requires in
-    let e = settled c.kilowatts.result p.0 (c.kilowatts.ensures.value ∙ p.2) p.1 in
-    subst (λ (z : ℤ). T (non_neg z) × Fits w32 (nat_abs z)) (sym e) (tt, fits p.0 p.1)
-
-pub returns : goal.returns
-returns c =
-    let p = unsigned_power c.args.megawatts c.requires in
-    let e = settled c.kilowatts.result p.0 (c.kilowatts.ensures.value ∙ p.2) p.1 in
-    ap nat_abs (e ∙ sym p.2)
+overflow_cast-result c = search (rules, unsigned_power, settled, fits)

@@ -1,4 +1,4 @@
-use Rattle.std.proofs.Common.{◌≡◌, ℕ, ◌<◌, length, get_or, sym, subst, ◌∙◌, arith, length-set}
+use Rattle.std.proofs.Common.{◌≡◌, ℕ, ◌<◌, length, get_or, sym, subst, ◌∙◌, arith, length-set, rules}
 use Rattle.limits.specs.Figure.{FigureAt, no_figure}
 use Rattle.limits.proofs.Breaks.{below_breaks, borne}
 use Rattle.limits.proofs.Places.{place_more}
@@ -12,9 +12,7 @@ returns-in_err-best g c = rw c.from_residual.ensures (record {
 })
 
 pub returns-then-not-is_allowed : goal.returns-then-not-is_allowed
-returns-then-not-is_allowed g c = record {
-  value = not_allowed (g.P.PlantLimit.allowed c.args.plant.now) c.args.terms.now.terms c.args.row.now.row (sym c.if-not-is_allowed.ensures);
-}
+returns-then-not-is_allowed g c = search (rules, not_allowed)
 
 pub loop-service-preserved : goal.loop-service-preserved
 loop-service-preserved g c =
@@ -27,11 +25,4 @@ loop-service-preserved g c =
     )
 
 pub returns : goal.returns
-returns g c = record {
-  value = (
-    borne c.args.terms.now.terms c.args.row.now.row c.args.terms.now.ten (g.P.PlantLimit.allowed c.args.plant.now)
-        (below_breaks c.args.terms.now.terms c.args.row.now.row c.args.terms.now.ten (g.P.PlantLimit.allowed c.args.plant.now) 32 (omega arith) c.in_ok-best.ensures.1)
-        (sym c.if-not-is_allowed.ensures),
-    λ service l. c.loop-service.invariant.1 service (omega (arith, l)),
-  );
-}
+returns g c = search (rules, below_breaks, borne)

@@ -1,4 +1,4 @@
-use Rattle.std.proofs.Common.{◌≡◌, ℕ, ◌<◌, ◌≤◌, Bool, false, length, sym, ap, ◌∙◌, subst, zero-le, arith}
+use Rattle.std.proofs.Common.{◌≡◌, ℕ, ◌<◌, ◌≤◌, Bool, length, sym, ap, ◌∙◌, subst, zero-le, arith, rules}
 use Rattle.limits.specs.Figure.{breaks_with}
 use Rattle.limits.specs.Limit.{Borne, breaks}
 use Rattle.limits.specs.Narrowing.{Held, exceeded_with}
@@ -26,14 +26,7 @@ returns-in_err-best g c = rw c.from_residual.ensures (record {
 })
 
 pub returns-in_err-most : goal.returns-in_err-most
-returns-in_err-most g c =
-    let named = c.number-number.ensures.value in
-    let e = c.with_amount-without.ensures ∙ ap (λ (n : ℕ). with_amount c.args.row.now.row n 0) (sym named) in
-    rw c.from_residual-in_err-most.ensures (rw (← named) (record {
-      value = λ live none. not_allowed (g.P.PlantLimit.allowed c.args.plant.now) c.args.terms.now.terms (with_amount c.args.row.now.row c.number-number.result 0)
-          (subst (λ (r : Row). g.P.PlantLimit.allowed c.args.plant.now r ≡ false) (back (g.P.PlantLimit.allowed c.args.plant.now) c.args.terms.now.terms c.args.row.now.row c.with_amount-without.result.row c.number-number.result e 0)
-          (c.in_err-most.ensures (omega (arith, c.number-number.ensures.one_of_ten)))) none;
-    }))
+returns-in_err-most g c = search (rules, not_allowed)
 
 pub returns : goal.returns
 returns g c =

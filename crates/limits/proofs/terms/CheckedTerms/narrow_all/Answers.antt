@@ -22,12 +22,4 @@ returns-in-Some-joint c =
     )
 
 pub returns-in_default-joint : goal.returns-in_default-joint
-returns-in_default-joint c =
-    let holds : exceeded (sides_of c.args.self.now.terms c.args.row.now.row c.args.limit) ≡ false = search rules in (
-      holds,
-      one_narrowed c.args.self.now.terms c.args.limit (sides_of c.args.self.now.terms c.args.row.now.row c.args.limit) (amount c.args.row.now.row) c.args.best.now
-          c.by-own.result c.cap.result c.narrow_place.new.best
-          c.by-own.ensures (sym c.in_default-joint.ensures)
-          (known _ c.in-Some.sides _ _ _ _ _ _ c.in-Some.ensures.value c.cap.ensures c.amount.ensures c.room-room.ensures.value c.coefficient.ensures)
-          c.narrow_place.ensures,
-    )
+returns-in_default-joint c = search (rules, one_narrowed, known)

@@ -1,4 +1,4 @@
-use Rattle.std.proofs.Common.{ℕ, List, set, sym, ap, ◌∙◌}
+use Rattle.std.proofs.Common.{ℕ, List, set, sym, ap, ◌∙◌, rules}
 use Rattle.fcas.specs.Service.{service_number}
 use Rattle.limits.specs.Row.{with_amount}
 use Rattle.limits.specs.declared.row.Row.{Row}
@@ -9,13 +9,10 @@ use Rattle.station.proofs.Held.{amount_not_live, amount_refused, amount_taken}
 use Rattle.station.proofs.row.UnitRow.amount.Goals as goal
 
 pub returns-then-not-is_live : goal.returns-then-not-is_live
-returns-then-not-is_live g c = amount_not_live (g.P.PlantLimit.allowed c.args.plant.now) c.args.self.now c.args.unit c.in_ok-held.ensures.0 (service_number c.args.service) c.args.amount (sym c.if-not-is_live.ensures)
+returns-then-not-is_live g c = search (rules, amount_not_live)
 
 pub returns-in_err-check_limits : goal.returns-in_err-check_limits
-returns-in_err-check_limits g c = rw (handed_on c.from_residual-in_err-check_limits.result c.in_err-check_limits.field-0.0 c.from_residual-in_err-check_limits.ensures.1)
-    (amount_refused (g.P.PlantLimit.allowed c.args.plant.now) c.args.self.now c.args.unit c.in_ok-held.ensures.0 (service_number c.args.service) c.args.amount (sym c.if-not-is_live.ensures)
-    c.with_amount-row.result.row (c.with_amount-row.ensures ∙ ap (λ (r : Row). with_amount r (service_number c.args.service) c.args.amount) c.in_ok-held.ensures.1)
-    c.in_err-check_limits.field-0.0 c.in_err-check_limits.ensures)
+returns-in_err-check_limits g c = search (rules, handed_on, amount_refused)
 
 pub returns : goal.returns
 returns g c =

@@ -1,4 +1,4 @@
-use Rattle.std.proofs.Common.{ℕ, ap, ◌∙◌}
+use Rattle.std.proofs.Common.{ℕ, ap, ◌∙◌, rules}
 use Rattle.states.specs.State.{stepped}
 use Rattle.states.specs.declared.state.Event.TheVariants.{Energy}
 use Rattle.station.proofs.Firsts.{handed_on}
@@ -6,8 +6,7 @@ use Rattle.station.proofs.Held.{energy_refused, energy_taken}
 use Rattle.station.proofs.row.UnitRow.energy.Goals as goal
 
 pub returns-in_err-check_limits : goal.returns-in_err-check_limits
-returns-in_err-check_limits g c = rw (handed_on c.from_residual-in_err-check_limits.result c.in_err-check_limits.field-0.0 c.from_residual-in_err-check_limits.ensures.1)
-    (energy_refused (g.P.PlantLimit.allowed c.args.plant.now) c.args.self.now c.args.unit c.in_ok-state.state c.args.energy c.in_err-check_limits.field-0.0 c.at-row.result.row (c.in_ok-state.ensures ∙ ap (λ (n : ℕ). stepped c.args.self.now.state (Energy n)) c.get.ensures.value) c.at-row.ensures c.in_err-check_limits.ensures)
+returns-in_err-check_limits g c = search (rules, handed_on, energy_refused)
 
 pub returns : goal.returns
 returns g c = energy_taken (g.P.PlantLimit.allowed c.args.plant.now) c.args.self.now c.args.unit c.in_ok-state.state c.args.energy c.at-row.result.row (c.in_ok-state.ensures ∙ ap (λ (n : ℕ). stepped c.args.self.now.state (Energy n)) c.get.ensures.value) c.at-row.ensures c.in_ok-check_limits.ensures
