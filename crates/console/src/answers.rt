@@ -1,5 +1,5 @@
 // An answer of the station to the bytes of its line.
-// Bytes by hand: counted side by side, 20,000 random calls took 76.6 million instructions with `write!`, and 62.8 so.
+// Bytes by hand: `write!` was tried and misses the bar of speed in docs/DECISIONS.md, by a fifth.
 use fcas::Trapezium;
 use limits::Figure;
 use numerals::put_number;

@@ -27,6 +27,7 @@ fn narrowed(number: u64) -> u32
     u32::try_from(number).unwrap_or(u32::MAX)
 }
 
+// By a match each: a word is looked up as bytes, and Display gives its words to a formatter.
 fn kind_named(word: &[u8]) -> Option<u32> {
     let kind = match word {
         b"generator" => Kind::Generator,

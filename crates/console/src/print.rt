@@ -2,7 +2,7 @@
 use fcas::{Ground, Service};
 use std::fmt;
 
-// The number of a limit, or of the ground that keeps a service out.
+// The number of a limit, or of the ground that keeps a service out. A figure holds it as a number, so neither Limit nor Ground serves.
 #[derive(Clone, Copy)]
 pub(crate) struct HeldBy(pub(crate) u8);
 

@@ -25,6 +25,7 @@ pub struct Bid {
 #[derive(Clone, Copy)]
 pub struct CheckedBid {
     pub bid: Bid,
+    // Facts, and no Power: the bid is kept as it was handed over.
     ghost rises_to_low: { bid.enablement_min ≤ bid.low_breakpoint },
     ghost rises_to_high: { bid.low_breakpoint ≤ bid.high_breakpoint },
     ghost rises_to_max: { bid.high_breakpoint ≤ bid.enablement_max },

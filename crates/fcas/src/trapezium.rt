@@ -143,7 +143,7 @@ impl Trapezium {
         )
     }
 
-    // Where it begins: the bid's lower slope, raised from the effective enablement minimum.
+    // Where it begins: the bid's lower slope, raised from the effective enablement minimum. The mirror of the other: another slope, sign and rounding.
     fn low_breakpoint(slopes: &Slopes, envelope: &Envelope) -> i64
         ensures { result ≡ effective_low_breakpoint slopes.now.max_availability slopes.now.lower_run envelope.now.enablement_min envelope.now.max_availability }
     {

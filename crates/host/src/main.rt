@@ -36,6 +36,7 @@ fn enrol(station: &mut Station<Bare>) -> Result<(), Refusal> {
 // The ten figures of one interval at an energy.
 fn interval(station: &mut Station<Bare>, energy: u32, table: &mut [Figure]) -> Result<(), Refusal> {
     let pass = station.open(0, &READING)?;
+    // No `?`: the pass has to be abandoned before the refusal is handed on.
     if let Err(refusal) = station.energy(&pass, energy) {
         station.abandon(pass)?;
         return Err(refusal);

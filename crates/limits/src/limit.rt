@@ -85,6 +85,7 @@ impl Limit {
 }
 
 // A power times an energy or an amount.
+// How large the parts of a limit can be is a clause, here and below: Sides is public and takes any, and a type for an energy that moved would be opened in the next line.
 fn times(power: Power, at: i64) -> i64
     requires { Moved at }
     ensures value { result ≡ pos power *ℤ at }

@@ -18,7 +18,7 @@ pub struct Best {
     pub limit: Limit,
 }
 
-// Before any limit has narrowed it: above every amount.
+// Before any limit has narrowed it: above every amount. No Option, since the least is then found by one comparison.
 const WIDEST: Best = Best {
     most: 4_000_001,
     limit: Limit::Plant,
@@ -171,6 +171,7 @@ impl CheckedTerms {
 
 impl CheckedTerms {
     // The first least cap on a service of all limits but the plant's; nothing where the row exceeds one of them.
+    // Both loops go by the number, as `Limit::of_service` is asked.
     pub(crate) fn least(&self, row: &CheckedRow, service: Service) -> Option<Best>
         ensures { Least self.now.terms row.now.row (service_number service) result }
     {

@@ -37,7 +37,7 @@ pub struct Terms {
     pub offers: [Offer; 10],
 }
 
-// Terms whose initial power is in the range that a checked reading gives it.
+// Terms whose initial power is in the range that a checked reading gives it. It has a sign, and stands at `kilowatts`, in a reading and here alone: a type for it would be no plainer.
 #[derive(Clone, Copy)]
 pub struct CheckedTerms {
     pub terms: Terms,

@@ -10,7 +10,7 @@ fn appended(number: u64, byte: u8) -> Option<u64>
     number.checked_mul(10)?.checked_add(u64::from(byte - b'0'))
 }
 
-// A whole number of decimal digits, below 2^64.
+// A whole number of decimal digits, below 2^64. Not `parse`, which takes a sign and refuses an empty word.
 pub fn whole(word: &[u8]) -> Option<u64>
     ensures { result ≡ whole_of word.now }
 {

@@ -139,6 +139,7 @@ impl UnitRow {
         }
     }
 
+    // The unit and the plant, here and below: a struct of both would be made by each call of the station and opened at once.
     pub(crate) fn energy<P: PlantLimit>(
         &mut self,
         unit: u32,

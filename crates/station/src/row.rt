@@ -9,11 +9,12 @@ use limits::CheckedTerms;
 use states::State;
 
 // Beside a state that is not open, the reading, the amounts and the terms count for nothing, and beside a vacant one the kind and the bids do not count either.
+// They are no fields of the states that have them: that a state without tables is stepped by a match is a rule of the project (docs/DECISIONS.md).
 #[derive(Clone, Copy)]
 pub struct UnitRow {
     pub(crate) state: State,
     pub(crate) kind: Kind,
-    // Ten bids here and ten amounts below, not ten of both: opening takes the bids whole, and a plant's row the amounts.
+    // Ten bids here, ten amounts below and ten offers in the terms, not ten of all three: opening takes the bids whole, and a plant's row the amounts.
     pub(crate) bids: [Option<CheckedBid>; 10],
     pub(crate) reading: CheckedReading,
     pub(crate) amounts: [u32; 10],

@@ -86,7 +86,7 @@ impl<P: PlantLimit> Station<P> {
         }
     }
 
-    // `with_pass` doesn't serve where a call changes the station: the proof knows nothing of a station that a closure changed.
+    // `with_pass` was tried, and doesn't serve where a call changes the station: the proof knows nothing of a station that a closure changed.
     fn apply_energy(&mut self, numbers: PassNumbers, energy: u32) -> Answer
         ensures { Turn P.PlantLimit.allowed self.old (Energy numbers energy) result self.new }
     {
