@@ -1,5 +1,5 @@
 // An answer of the station to the bytes of its line.
-// Bytes by hand: `write!` was tried and misses the bar of speed in docs/DECISIONS.md, by a fifth.
+// Bytes by hand: `write!` was tried, takes a fifth more instructions, and misses the bar of speed in docs/DECISIONS.md.
 use fcas::Trapezium;
 use limits::Figure;
 use numerals::put_number;
