@@ -149,39 +149,27 @@ fn broken<P: PlantLimit>(terms: &CheckedTerms, row: &CheckedRow, plant: &P) -> (
     }
 }
 
-// Asks something of terms, where they are not refused. A match: the checker does not cover `?` on terms.
-fn asked<T, F: FnOnce(&CheckedTerms) -> Result<T, Refusal> + Drop>(
-    terms: Result<CheckedTerms, Refusal>,
-    ask: F,
-) -> Result<T, Refusal>
-    requires { F.IsAlwaysCallable ask }
-{
-    match terms {
-        Ok(terms) => ask(&terms),
-        Err(refusal) => Err(refusal),
-    }
-}
-
 pub(crate) fn refused(_refusal: Refusal) -> Fail {
     Fail::new("refused")
 }
 
-fn generator_figures(terms: &CheckedTerms) -> Result<[(u32, u8, u8); 6], Refusal> {
+fn generator_figures() -> Result<[(u32, u8, u8); 6], Refusal> {
+    let terms = generator_terms()?;
     let row = generator_row()?;
-    let table = figures(terms, &row, &Bare);
+    let table = figures(&terms, &row, &Bare);
     Ok([
         in_table(&table, 3),
         in_table(&table, 4),
         in_table(&table, 8),
         in_table(&table, 9),
         in_table(&table, 7),
-        probed(terms, &row, &Bare, 4)?,
+        probed(&terms, &row, &Bare, 4)?,
     ])
 }
 
 #[test]
 fn generator(rt: HostRuntime) -> Result<(), Fail> {
-    let told = asked(generator_terms(), generator_figures).map_err(refused)?;
+    let told = generator_figures().map_err(refused)?;
     assert_eq!(rt; told[0], (66_000, 1, 3));
     assert_eq!(rt; told[1], (10_000, 6, 4));
     assert_eq!(rt; told[2], (76_000, 1, 8));
@@ -191,24 +179,25 @@ fn generator(rt: HostRuntime) -> Result<(), Fail> {
     Ok(())
 }
 
-fn shared_figures(terms: &CheckedTerms) -> Result<[(u32, u8, u8); 4], Refusal> {
+fn shared_figures() -> Result<[(u32, u8, u8); 4], Refusal> {
     let share = GovernorShare {
         raise: 70_000,
         lower: 70_000,
     };
+    let terms = generator_terms()?;
     let row = generator_row()?;
-    let table = figures(terms, &row, &share);
+    let table = figures(&terms, &row, &share);
     Ok([
         in_table(&table, 3),
         in_table(&table, 4),
         in_table(&table, 8),
-        probed(terms, &row, &Shut, 3)?,
+        probed(&terms, &row, &Shut, 3)?,
     ])
 }
 
 #[test]
 fn governor_share(rt: HostRuntime) -> Result<(), Fail> {
-    let told = asked(generator_terms(), shared_figures).map_err(refused)?;
+    let told = shared_figures().map_err(refused)?;
     assert_eq!(rt; told[0], (60_000, 8, 10));
     assert_eq!(rt; told[1], (10_000, 6, 4));
     assert_eq!(rt; told[2], (60_000, 8, 10));
@@ -216,46 +205,48 @@ fn governor_share(rt: HostRuntime) -> Result<(), Fail> {
     Ok(())
 }
 
-fn regulating_figures(terms: &CheckedTerms) -> Result<[(u32, u8, u8); 3], Refusal> {
+fn regulating_figures() -> Result<[(u32, u8, u8); 3], Refusal> {
+    let terms = regulating_terms()?;
     let none = [0; 10];
     Ok([
-        probed(terms, &row(Kind::Generator, 600_000, none)?, &Bare, 4)?,
-        probed(terms, &row(Kind::Generator, 670_000, none)?, &Bare, 4)?,
-        probed(terms, &row(Kind::Generator, 670_001, none)?, &Bare, 4)?,
+        probed(&terms, &row(Kind::Generator, 600_000, none)?, &Bare, 4)?,
+        probed(&terms, &row(Kind::Generator, 670_000, none)?, &Bare, 4)?,
+        probed(&terms, &row(Kind::Generator, 670_001, none)?, &Bare, 4)?,
     ])
 }
 
 #[test]
 fn regulation_alone(rt: HostRuntime) -> Result<(), Fail> {
-    let told = asked(regulating_terms(), regulating_figures).map_err(refused)?;
+    let told = regulating_figures().map_err(refused)?;
     assert_eq!(rt; told[0], (77_777, 2, 4));
     assert_eq!(rt; told[1], (0, 2, 4));
     assert_eq!(rt; told[2], (9_999_999, 0, 0), "not even 0 is borne");
     Ok(())
 }
 
-fn load_figure(terms: &CheckedTerms) -> Result<(u32, u8, u8), Refusal> {
+fn load_figure() -> Result<(u32, u8, u8), Refusal> {
     let row = row(Kind::Load, 185_000, [0, 0, 40_000, 0, 0, 0, 0, 0, 0, 0])?;
-    probed(terms, &row, &Bare, 4)
+    probed(&load_terms()?, &row, &Bare, 4)
 }
 
 #[test]
 fn load(rt: HostRuntime) -> Result<(), Fail> {
-    let told = asked(load_terms(), load_figure).map_err(refused)?;
+    let told = load_figure().map_err(refused)?;
     assert_eq!(rt; told, (5_000, 7, 4));
     Ok(())
 }
 
-fn broken_rows(terms: &CheckedTerms) -> Result<[(u8, u8); 6], Refusal> {
+fn broken_rows() -> Result<[(u8, u8); 6], Refusal> {
+    let terms = generator_terms()?;
     let none = [0; 10];
     Ok([
-        broken(terms, &row(Kind::Generator, 465_000, none)?, &Bare),
-        broken(terms, &row(Kind::Generator, 465_001, none)?, &Bare),
-        broken(terms, &row(Kind::Generator, 440_000, none)?, &Bare),
-        broken(terms, &row(Kind::Generator, 439_999, none)?, &Bare),
-        broken(terms, &row(Kind::Generator, 455_000, none)?, &Shut),
+        broken(&terms, &row(Kind::Generator, 465_000, none)?, &Bare),
+        broken(&terms, &row(Kind::Generator, 465_001, none)?, &Bare),
+        broken(&terms, &row(Kind::Generator, 440_000, none)?, &Bare),
+        broken(&terms, &row(Kind::Generator, 439_999, none)?, &Bare),
+        broken(&terms, &row(Kind::Generator, 455_000, none)?, &Shut),
         broken(
-            terms,
+            &terms,
             &row(
                 Kind::Generator,
                 455_000,
@@ -268,7 +259,7 @@ fn broken_rows(terms: &CheckedTerms) -> Result<[(u8, u8); 6], Refusal> {
 
 #[test]
 fn first_broken_limit(rt: HostRuntime) -> Result<(), Fail> {
-    let told = asked(generator_terms(), broken_rows).map_err(refused)?;
+    let told = broken_rows().map_err(refused)?;
     assert_eq!(rt; told[0], (0, 0));
     assert_eq!(rt; told[1], (6, 4));
     assert_eq!(rt; told[2], (0, 0));

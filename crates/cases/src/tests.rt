@@ -1,8 +1,10 @@
 // Readings and bids at the edges of the rules.
 use crate::row_tests::refused;
 use fcas::{
-    Bid, CheckedBid, CheckedReading, Ground, Kind, Opening, Reading, Refusal, Service, Trapezium,
+    Bid, CheckedBid, CheckedReading, Envelope, Ground, Kind, Opening, Reading, Refusal, Service,
+    Trapezium,
 };
+use limits::CheckedTerms;
 use std::test::Fail;
 
 const ONE_BAND: [u32; 10] = [0, 0, 0, 0, 0, 0, 0, 0, 0, 1];
@@ -64,11 +66,8 @@ fn trapezium(
     availability: u32,
     reading: &Reading,
 ) -> Result<Trapezium, Refusal> {
-    // Matches, here and below: the checker does not cover `?` on what holds a reading beside more.
-    match checked(kind, service, availability, reading) {
-        Ok((opening, service, bid)) => Ok(Trapezium::new(&opening, service, &bid)),
-        Err(refusal) => Err(refusal),
-    }
+    let (opening, service, bid) = checked(kind, service, availability, reading)?;
+    Ok(Trapezium::new(&opening, service, &bid))
 }
 
 // The number of the ground against a service, 0 where it is live, and that of the refusal where something is refused.
@@ -86,10 +85,8 @@ fn find_ground(
     availability: u32,
     reading: &Reading,
 ) -> Result<Option<Ground>, Refusal> {
-    match checked(kind, service, availability, reading) {
-        Ok((opening, service, bid)) => Ok(Ground::against(&opening, service, Some(&bid))),
-        Err(refusal) => Err(refusal),
-    }
+    let (opening, service, bid) = checked(kind, service, availability, reading)?;
+    Ok(Ground::against(&opening, service, Some(&bid)))
 }
 
 #[test]
@@ -165,4 +162,51 @@ fn wind_farm(rt: HostRuntime) {
     );
     reading.agc_status = 2;
     assert_eq!(rt; ground(Kind::Generator, 4, 10_000, &reading), 16);
+}
+
+// What takes a reading, an envelope or terms by value, so that each is copied by whoever goes on with it.
+fn initial_of(reading: CheckedReading) -> i32 {
+    reading.measured.initial
+}
+
+fn width_of(envelope: Envelope) -> u32 {
+    envelope.enablement_max - envelope.enablement_min.min(envelope.enablement_max)
+}
+
+fn offered_by(terms: CheckedTerms) -> u32 {
+    terms.terms.offers[0].max_availability
+}
+
+fn copied() -> Result<[u32; 6], Refusal> {
+    let (opening, service, bid) = checked(Kind::Generator, 0, 10_000, &at(50.0))?;
+    let reading = opening.reading;
+    let envelope = Envelope::new(&opening, service, &bid);
+    let bids = [
+        Some(bid),
+        None,
+        None,
+        None,
+        None,
+        None,
+        None,
+        None,
+        None,
+        None,
+    ];
+    let terms = CheckedTerms::new(&opening, &bids);
+    Ok([
+        initial_of(reading).unsigned_abs(),
+        initial_of(reading).unsigned_abs(),
+        width_of(envelope),
+        width_of(envelope),
+        offered_by(terms),
+        offered_by(terms),
+    ])
+}
+
+#[test]
+fn copies(rt: HostRuntime) -> Result<(), Fail> {
+    let told = copied().map_err(refused)?;
+    assert_eq!(rt; told, [50_000, 50_000, 80_000, 80_000, 10_000, 10_000]);
+    Ok(())
 }

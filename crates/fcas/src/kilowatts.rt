@@ -1,9 +1,7 @@
 // Megawatts as 64-bit floats to whole kilowatts, with nothing clamped.
 ghost use Rattle.std.specs.Prelude.{◌≡◌, ◌≤◌, true, pos, negsuc, ◌≤ℤ◌, unsigned_abs};
 ghost use Rattle.fcas.specs.Kilowatts.{kilowatts_if, kilowatts_of, least_mw, most_mw, nearest_whole, thousandfold as product, within as lies_within, within_if, zero_mw};
-ghost use Rattle.std.specs.Option.{unwrap_or};
 
-use crate::power::UpTo;
 use std::num::truncating_f64_to_i64;
 
 pub(crate) const LEAST_MW: f64 = -4000.0;
@@ -57,16 +55,9 @@ pub(crate) fn unsigned_kilowatts(megawatts: f64) -> u32
 }
 
 // The same of a number that may be absent.
-pub(crate) fn kilowatts_if_present<const MOST: u32>(megawatts: Option<f64>) -> Option<UpTo<MOST>>
-    requires in_range { within_if zero_mw most_mw megawatts ≡ true }
-    requires most { unwrap_or (kilowatts_if megawatts) 0 ≤ MOST }
+pub(crate) fn kilowatts_if_present(megawatts: Option<f64>) -> Option<u32>
+    requires { within_if zero_mw most_mw megawatts ≡ true }
     ensures { result ≡ kilowatts_if megawatts }
 {
-    // A match: `map` was tried, and the checker does not cover a closure whose result names a const parameter.
-    match megawatts {
-        Some(x) => Some(UpTo {
-            number: unsigned_kilowatts(x),
-        }),
-        None => None,
-    }
+    megawatts.map(unsigned_kilowatts)
 }

@@ -58,7 +58,7 @@ impl Ground {
         ensures { result ≡ first_true (grounds_against opening.now.kind (service_number service) bid.now.bid opening.now.reading.measured) }
     {
         let envelope = Envelope::new(opening, service, bid);
-        if envelope.max_availability.get() == 0 {
+        if envelope.max_availability == 0 {
             return Some(Ground::NoAvailability);
         }
         if !some_above(0, &bid.bid.bands) {
@@ -68,7 +68,7 @@ impl Ground {
             return Some(Ground::EnergyMaxTooLow);
         }
         let initial = not_below_zero(opening.reading.measured.initial);
-        if initial < envelope.enablement_min.get() || envelope.enablement_max.get() < initial {
+        if initial < envelope.enablement_min || envelope.enablement_max < initial {
             return Some(Ground::OutsideEnablement);
         }
         if service.is_regulating() && is_off(opening.reading.measured.agc_status) {

@@ -1,14 +1,14 @@
 // A unit as its interval opens.
-ghost use Rattle.std.specs.Prelude.{◌≡◌, ◌*◌};
+ghost use Rattle.std.specs.Prelude.{◌≡◌, ◌*◌, ◌≤◌};
 ghost use Rattle.fcas.specs.Checks.{Checked};
 ghost use Rattle.fcas.specs.Live.{energy_available};
 ghost use Rattle.fcas.specs.Reading.{forecast_faults};
 ghost use Rattle.fcas.specs.Service.{service_number};
 ghost use Rattle.fcas.specs.Trapezium.{at_least, at_most, forecast_of, ramp_of, unless_zero};
-ghost use Rattle.std.specs.Option.{option_map};
+ghost use Rattle.std.specs.Option.{option_map, unwrap_or};
 
 use crate::kind::Kind;
-use crate::power::{Power, Ramp, UpTo};
+use crate::power::{Power, Ramp, known};
 use crate::reading::CheckedReading;
 use crate::refusal::Refusal;
 use crate::service::Service;
@@ -21,20 +21,22 @@ pub struct Opening {
 }
 
 // A limit that counts only where it is told and not zero.
-pub(crate) fn unless_zero<const MOST: u32>(limit: Option<UpTo<MOST>>) -> Option<UpTo<MOST>>
-    ensures { result ≡ unless_zero limit.entry }
+pub(crate) fn unless_zero(limit: Option<u32>) -> Option<u32>
+    ensures value { result ≡ unless_zero limit }
+    ensures bound { unwrap_or result 0 ≤ unwrap_or limit 0 }
 {
     match limit {
-        Some(limit) if limit.get() != 0 => Some(limit),
-        _ => None,
+        Some(0) => None,
+        _ => limit,
     }
 }
 
 // What a ramp gives in five minutes, where it is told and not zero.
-fn in_five_minutes(ramp: Option<Ramp>) -> Option<Power>
+fn in_five_minutes(ramp: Option<u32>) -> Option<Power>
+    requires { unwrap_or ramp 0 ≤ 800000 }
     ensures { result ≡ option_map (λ each. 5 * each) (unless_zero ramp) }
 {
-    unless_zero(ramp).map(|each| each.in_five_minutes())
+    known(unless_zero(ramp)).map(|each: Ramp| each.in_five_minutes())
 }
 
 impl Opening {
@@ -76,7 +78,7 @@ impl Opening {
     }
 
     // The forecast that bears on a unit of the kind.
-    pub(crate) fn forecast(&self) -> Option<Power>
+    pub(crate) fn forecast(&self) -> Option<u32>
         ensures { result ≡ forecast_of self.now.kind self.now.reading.measured }
     {
         match self.kind {
@@ -86,7 +88,7 @@ impl Opening {
     }
 
     // The energy that the unit can reach in the interval.
-    pub(crate) fn energy_available(&self) -> Power
+    pub(crate) fn energy_available(&self) -> u32
         ensures { result ≡ energy_available self.now.kind self.now.reading.measured }
     {
         at_most(self.forecast(), self.reading.measured.energy_max)
@@ -94,14 +96,14 @@ impl Opening {
 }
 
 // Two functions of one line each: a shared one would have to be told `max` or `min`.
-pub(crate) fn at_least(limit: Option<Power>, power: Power) -> Power
-    ensures { result ≡ at_least limit power }
+pub(crate) fn at_least(limit: Option<u32>, number: u32) -> u32
+    ensures { result ≡ at_least limit number }
 {
-    limit.map_or(power, |limit| power.max(limit))
+    limit.map_or(number, |limit| number.max(limit))
 }
 
-pub(crate) fn at_most(limit: Option<Power>, power: Power) -> Power
-    ensures { result ≡ at_most limit power }
+pub(crate) fn at_most(limit: Option<u32>, number: u32) -> u32
+    ensures { result ≡ at_most limit number }
 {
-    limit.map_or(power, |limit| power.min(limit))
+    limit.map_or(number, |limit| number.min(limit))
 }

@@ -2,6 +2,7 @@
 ghost use Rattle.std.specs.Prelude.{◌≡◌, ◌*◌, ℕ, ◌≤◌};
 ghost use Rattle.fcas.specs.Checks.{Checked};
 ghost use Rattle.fcas.specs.Power.{power_faults};
+ghost use Rattle.std.specs.Option.{unwrap_or};
 
 use crate::refusal::Refusal;
 use std::marker::Model;
@@ -51,6 +52,17 @@ impl TryFrom<u32> for Power {
             return Err(Refusal::PowerTooLarge);
         }
         Ok(UpTo { number })
+    }
+}
+
+// A number that was found to be in range, where there is one.
+pub(crate) fn known<const MOST: u32>(number: Option<u32>) -> Option<UpTo<MOST>>
+    requires { unwrap_or number 0 ≤ MOST }
+    ensures { result ≡ number }
+{
+    match number {
+        Some(number) => Some(UpTo { number }),
+        None => None,
     }
 }
 

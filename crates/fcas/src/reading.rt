@@ -7,7 +7,6 @@ ghost use Rattle.std.specs.Option.{unwrap_or};
 use crate::kilowatts::{
     LEAST_MW, MOST_MW, MOST_RAMP_MW, absent_or_within, kilowatts, kilowatts_if_present, within,
 };
-use crate::power::{Power, Ramp};
 use crate::refusal::Refusal;
 
 // A reading as it is handed over. The floats are megawatts, the ramps megawatts a minute; the energy maximum is in kilowatts. UIGF is the forecast of a semi-scheduled unit.
@@ -31,16 +30,16 @@ pub enum AgcStatus {
     Off,
 }
 
-// A reading in whole kilowatts.
+// A reading in whole kilowatts. Plain numbers, and no Power: a struct that holds one has no copy to hand out (docs/DECISIONS.md).
 #[derive(Clone, Copy, Debug, PartialEq, Eq)]
 pub struct Measured {
     pub initial: i32,
-    pub agc_lower: Option<Power>,
-    pub agc_upper: Option<Power>,
-    pub ramp_up: Option<Ramp>,
-    pub ramp_down: Option<Ramp>,
-    pub uigf: Option<Power>,
-    pub energy_max: Power,
+    pub agc_lower: Option<u32>,
+    pub agc_upper: Option<u32>,
+    pub ramp_up: Option<u32>,
+    pub ramp_down: Option<u32>,
+    pub uigf: Option<u32>,
+    pub energy_max: u32,
     pub agc_status: AgcStatus,
 }
 
@@ -50,6 +49,12 @@ pub struct CheckedReading {
     pub measured: Measured,
     ghost initial_low: { negsuc 3999999 ≤ℤ measured.initial },
     ghost initial_high: { measured.initial ≤ℤ pos 4000000 },
+    ghost agc_lower_in_range: { unwrap_or measured.agc_lower 0 ≤ 4000000 },
+    ghost agc_upper_in_range: { unwrap_or measured.agc_upper 0 ≤ 4000000 },
+    ghost ramp_up_in_range: { unwrap_or measured.ramp_up 0 ≤ 800000 },
+    ghost ramp_down_in_range: { unwrap_or measured.ramp_down 0 ≤ 800000 },
+    ghost uigf_in_range: { unwrap_or measured.uigf 0 ≤ 4000000 },
+    ghost energy_max_in_range: { measured.energy_max ≤ 4000000 },
 }
 
 impl TryFrom<u32> for AgcStatus {
@@ -97,7 +102,7 @@ impl CheckedReading {
             ramp_up: kilowatts_if_present(reading.ramp_up),
             ramp_down: kilowatts_if_present(reading.ramp_down),
             uigf: kilowatts_if_present(reading.uigf),
-            energy_max: Power::try_from(reading.energy_max)?,
+            energy_max: reading.energy_max,
             agc_status: AgcStatus::try_from(reading.agc_status)?,
         };
         Ok(CheckedReading { measured })

@@ -6,8 +6,8 @@ ghost use Rattle.std.specs.Option.{option_map, unwrap_or};
 
 use crate::bid::{CheckedBid, Slopes};
 use crate::opening::{Opening, at_least, at_most, unless_zero};
-use crate::power::{Power, UpTo};
-use crate::reading::Measured;
+use crate::power::Power;
+use crate::reading::CheckedReading;
 use crate::service::Service;
 
 #[derive(Clone, Copy, Debug, PartialEq, Eq)]
@@ -22,9 +22,12 @@ pub struct Trapezium {
 // The three numbers that are scaled; the breakpoints follow from them by the bid's slopes.
 #[derive(Clone, Copy, Debug, PartialEq, Eq)]
 pub struct Envelope {
-    pub enablement_min: Power,
-    pub enablement_max: Power,
-    pub max_availability: Power,
+    pub enablement_min: u32,
+    pub enablement_max: u32,
+    pub max_availability: u32,
+    ghost min_in_range: { enablement_min ≤ 4000000 },
+    ghost max_in_range: { enablement_max ≤ 4000000 },
+    ghost availability_in_range: { max_availability ≤ 4000000 },
 }
 
 impl Envelope {
@@ -35,31 +38,25 @@ impl Envelope {
         ensures availability { result.max_availability ≡ bid.now.bid.max_availability }
     {
         Envelope {
-            enablement_min: UpTo {
-                number: bid.bid.enablement_min,
-            },
-            enablement_max: UpTo {
-                number: bid.bid.enablement_max,
-            },
-            max_availability: UpTo {
-                number: bid.bid.max_availability,
-            },
+            enablement_min: bid.bid.enablement_min,
+            enablement_max: bid.bid.enablement_max,
+            max_availability: bid.bid.max_availability,
         }
     }
 
     // The AGC limits narrow the enablement limits of a regulating service.
-    fn within_agc(self, service: Service, measured: &Measured) -> Envelope
-        ensures min { result.enablement_min ≡ at_least (lower_limit (service_number service) measured.now) self.enablement_min }
-        ensures max { result.enablement_max ≡ at_most (upper_limit (service_number service) measured.now) self.enablement_max }
+    fn within_agc(self, service: Service, reading: &CheckedReading) -> Envelope
+        ensures min { result.enablement_min ≡ at_least (lower_limit (service_number service) reading.now.measured) self.enablement_min }
+        ensures max { result.enablement_max ≡ at_most (upper_limit (service_number service) reading.now.measured) self.enablement_max }
         ensures availability { result.max_availability ≡ self.max_availability }
     {
         if !service.is_regulating() {
             return self;
         }
         Envelope {
-            enablement_min: at_least(unless_zero(measured.agc_lower), self.enablement_min),
-            enablement_max: at_most(unless_zero(measured.agc_upper), self.enablement_max),
-            ..self
+            enablement_min: at_least(unless_zero(reading.measured.agc_lower), self.enablement_min),
+            enablement_max: at_most(unless_zero(reading.measured.agc_upper), self.enablement_max),
+            max_availability: self.max_availability,
         }
     }
 
@@ -70,20 +67,25 @@ impl Envelope {
         ensures availability { result.max_availability ≡ at_most in_five_minutes self.max_availability }
     {
         Envelope {
-            max_availability: at_most(in_five_minutes, self.max_availability),
-            ..self
+            enablement_min: self.enablement_min,
+            enablement_max: self.enablement_max,
+            max_availability: at_most(
+                in_five_minutes.map(|power| power.get()),
+                self.max_availability,
+            ),
         }
     }
 
     // A forecast caps the enablement maximum. The steps of scaling are a function each, since which apply is a rule of its own.
-    fn within_forecast(self, forecast: Option<Power>) -> Envelope
+    fn within_forecast(self, forecast: Option<u32>) -> Envelope
         ensures min { result.enablement_min ≡ self.enablement_min }
         ensures max { result.enablement_max ≡ at_most forecast self.enablement_max }
         ensures availability { result.max_availability ≡ self.max_availability }
     {
         Envelope {
+            enablement_min: self.enablement_min,
             enablement_max: at_most(forecast, self.enablement_max),
-            ..self
+            max_availability: self.max_availability,
         }
     }
 
@@ -94,19 +96,20 @@ impl Envelope {
         ensures availability { result.max_availability ≡ effective_max_availability opening.now.kind (service_number service) bid.now.bid opening.now.reading.measured }
     {
         Envelope::offered(bid)
-            .within_agc(service, &opening.reading.measured)
+            .within_agc(service, &opening.reading)
             .within_ramp(opening.ramped(service))
             .within_forecast(opening.forecast())
     }
 }
 
 // The product of two powers.
-fn product(a: Power, b: Power) -> i64
+fn product(a: Power, b: u32) -> i64
+    requires { b ≤ 4000000 }
     ensures value { result ≡ pos a *ℤ pos b }
     ensures low { pos 0 ≤ℤ result }
     ensures high { result ≤ℤ pos 16000000000000 }
 {
-    i64::from(a.get()) * i64::from(b.get())
+    i64::from(a.get()) * i64::from(b)
 }
 
 // The quotient of a sum or a difference of products, rounded down.
@@ -134,7 +137,7 @@ impl Trapezium {
     {
         let availability = slopes.max_availability;
         if availability.get() == 0 {
-            return i64::from(envelope.enablement_max.get());
+            return i64::from(envelope.enablement_max);
         }
         rounded_down(
             product(availability, envelope.enablement_max)
@@ -149,7 +152,7 @@ impl Trapezium {
     {
         let availability = slopes.max_availability;
         if availability.get() == 0 {
-            return i64::from(envelope.enablement_min.get());
+            return i64::from(envelope.enablement_min);
         }
         rounded_up(
             product(availability, envelope.enablement_min)
@@ -165,11 +168,11 @@ impl Trapezium {
         let slopes = bid.slopes();
         let envelope = Envelope::new(opening, service, bid);
         Trapezium {
-            enablement_min: envelope.enablement_min.get(),
+            enablement_min: envelope.enablement_min,
             low_breakpoint: Trapezium::low_breakpoint(&slopes, &envelope),
             high_breakpoint: Trapezium::high_breakpoint(&slopes, &envelope),
-            enablement_max: envelope.enablement_max.get(),
-            max_availability: envelope.max_availability.get(),
+            enablement_max: envelope.enablement_max,
+            max_availability: envelope.max_availability,
         }
     }
 }

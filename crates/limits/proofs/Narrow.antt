@@ -1,5 +1,5 @@
 -- A limit narrows the least so far by its cap.
-use Rattle.std.proofs.Common.{◌≡◌, ℕ, ◌+◌, ◌*◌, ◌<◌, false, List, length, get_or, Some, None, Option, sym, subst}
+use Rattle.std.proofs.Common.{◌≡◌, ℕ, ◌+◌, ◌*◌, ◌<◌, false, List, length, get_or, Some, None, Option, sym, subst, arith}
 use Rattle.limits.specs.Limit.{exceeded, limits_of, sides_of}
 use Rattle.limits.specs.Narrowing.{Held, Least, Narrowed, cap_by, coefficient_of, exceeded_with, narrowed_to}
 use Rattle.limits.specs.Row.{amount, with_amount}
@@ -43,3 +43,16 @@ module _ (terms : Terms) (row : Row) (s : ℕ) (within : s < length row.amounts)
 
   pub held_place : (m n : ℕ) (best : Best) → m ≡ n → Held (exceeded_with terms row s) m best → Held (exceeded_with terms row s) n best
   held_place m n best e h = subst (λ (k : ℕ). Held (exceeded_with terms row s) k best) e h
+
+  -- the three limits of a service, one after the other
+  pub held_three : (limits : List Limit) (own : ℕ) (d : Limit) → limits ≡ limits_of own → own < 10 → (b b₁ b₂ b₃ : Best) → Held (exceeded_with terms row s) (3 * own) b
+      → exceeded (sides_of terms row (get_or limits 0 d)) ≡ false → b₁ ≡ narrowed_to b (cap_at (get_or limits 0 d)) (get_or limits 0 d)
+      → exceeded (sides_of terms row (get_or limits 1 d)) ≡ false → b₂ ≡ narrowed_to b₁ (cap_at (get_or limits 1 d)) (get_or limits 1 d)
+      → exceeded (sides_of terms row (get_or limits 2 d)) ≡ false → b₃ ≡ narrowed_to b₂ (cap_at (get_or limits 2 d)) (get_or limits 2 d)
+      → Held (exceeded_with terms row s) (3 * (own + 1)) b₃
+  held_three limits own d these l b b₁ b₂ b₃ h fa ea fu eu fl el =
+      let start : 3 * own ≡ 3 * own + 0 = omega arith in
+      let end : 3 * own + (2 + 1) ≡ 3 * (own + 1) = omega arith in
+      let h₁ = at_service limits own 0 d b b₁ these l (omega arith) (held_place (3 * own) (3 * own + 0) b start h) fa ea in
+      let h₂ = at_service limits own 1 d b₁ b₂ these l (omega arith) h₁ fu eu in
+      held_place (3 * own + (2 + 1)) (3 * (own + 1)) b₃ end (at_service limits own 2 d b₂ b₃ these l (omega arith) h₂ fl el)

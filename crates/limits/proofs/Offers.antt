@@ -1,10 +1,11 @@
 -- The offers of ten services, from that of each.
-use Rattle.std.proofs.Common.{◌≡◌, ℕ, suc, ◌+◌, ◌<◌, List, [], ◌∷◌, length, get_or, None, Option, refl, ap, ◌∙◌, arith}
+use Rattle.std.proofs.Common.{◌≡◌, ℕ, suc, ◌+◌, ◌<◌, true, List, [], ◌∷◌, length, get_or, None, Option, refl, ap, ◌∙◌, arith}
+use Rattle.std.proofs.lemmas.Bool.{and_from}
 use Rattle.std.specs.Option.{option_map}
 use Rattle.fcas.specs.declared.bid.CheckedBid.{CheckedBid}
 use Rattle.fcas.specs.declared.kind.Kind.{Kind}
 use Rattle.fcas.specs.declared.reading.Measured.{Measured}
-use Rattle.limits.specs.Terms.{held_bids, no_offer, offer_of, offers_from}
+use Rattle.limits.specs.Terms.{all_in_bounds, held_bids, in_bounds, no_offer, offer_of, offers_from}
 use Rattle.limits.specs.declared.terms.Offer.{Offer}
 
 module _ (kind : Kind) (m : Measured) where
@@ -20,3 +21,7 @@ module _ (kind : Kind) (m : Measured) where
       (offers_are (suc start) bs os (omega (arith, e)) (λ s l.
       let next : start + suc s ≡ suc start + s = omega arith in
       each (suc s) (omega arith) ∙ ap (λ (n : ℕ). offer_of kind m n (option_map (λ checked. checked.bid) (get_or bs s None))) next))
+
+pub all_in_bounds_lem : (offers : List Offer) → ((s : ℕ) → s < length offers → in_bounds (get_or offers s no_offer) ≡ true) → all_in_bounds offers ≡ true
+all_in_bounds_lem [] each = refl
+all_in_bounds_lem (o ∷ os) each = and_from (in_bounds o) (all_in_bounds os) (each 0 (omega arith)) (all_in_bounds_lem os (λ s l. each (suc s) (omega arith)))

@@ -38,6 +38,15 @@ below_more f limits s i d these m h below here limit l =
     subst (λ (x : Limit). f x ≡ false) (sym (at_place limit s i d m h e ∙ ap (λ (xs : List Limit). get_or xs i d) (sym these))) here)
     (cases_lt (place limit) (3 * s + i))
 
+-- the three limits of a service more
+pub below_three : (f : Limit → Bool) (limits : List Limit) (s : ℕ) (d : Limit) → limits ≡ limits_of s → s < 10 → Below f (3 * s) → f (get_or limits 0 d) ≡ false → f (get_or limits 1 d) ≡ false → f (get_or limits 2 d) ≡ false → Below f (3 * (s + 1))
+below_three f limits s d these m below a u w =
+    let start : 3 * s ≡ 3 * s + 0 = omega arith in
+    let end : 3 * s + (2 + 1) ≡ 3 * (s + 1) = omega arith in
+    let below₁ = below_more f limits s 0 d these m (omega arith) (subst (λ (n : ℕ). Below f n) start below) a in
+    let below₂ = below_more f limits s 1 d these m (omega arith) below₁ u in
+    subst (λ (n : ℕ). Below f n) end (below_more f limits s 2 d these m (omega arith) below₂ w)
+
 -- What is no service has no limit that breaks.
 pub record TenOnly (f : Limit → Bool) : Type 0 where
   pub availability : (s : ℕ) → 10 ≤ s → f (Availability s) ≡ false

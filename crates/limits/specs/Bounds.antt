@@ -1,6 +1,7 @@
 -- Bounds that keep sums and products within 64 bits. They are no part of the rules.
-use Rattle.std.specs.Prelude.{ℤ, pos, negsuc, ◌≤ℤ◌, Some, None, Option}
+use Rattle.std.specs.Prelude.{◌≤◌, ℤ, pos, negsuc, ◌≤ℤ◌, Some, None, Option}
 use Rattle.limits.specs.declared.limit.Sides.{Sides}
+use Rattle.limits.specs.declared.terms.Offer.{Offer}
 
 -- An energy with an amount added or taken away.
 pub record Moved (z : ℤ) : Type 0 where
@@ -22,3 +23,12 @@ pub record Bounded (sides : Sides) : Type 0 where
 abbrev pub BoundedIf : Option Sides → Type 0
 BoundedIf None = Unit {0}
 BoundedIf (Some sides) = Bounded sides
+
+-- The powers of an offer.
+pub record Powers (offer : Offer) : Type 0 where
+  pub availability : offer.bid_availability ≤ 4000000
+  pub upper_run : offer.upper_run ≤ 4000000
+  pub lower_run : offer.lower_run ≤ 4000000
+  pub min : offer.enablement_min ≤ 4000000
+  pub max : offer.enablement_max ≤ 4000000
+  pub effective : offer.max_availability ≤ 4000000

@@ -1,5 +1,5 @@
 -- The numbers by which a unit's limits are reckoned, fixed as the interval opens.
-use Rattle.std.specs.Prelude.{ℕ, suc, ◌*◌, List, [], ◌∷◌, Some, None, Option}
+use Rattle.std.specs.Prelude.{ℕ, suc, ◌*◌, Bool, true, ◌&&◌, List, [], ◌∷◌, Some, None, Option, nat_le}
 use Rattle.std.specs.Option.{option_map}
 use Rattle.fcas.specs.Live.{ground_of}
 use Rattle.fcas.specs.Trapezium.{effective_enablement_min, effective_enablement_max, effective_max_availability, upper_run_of, lower_run_of, unless_zero}
@@ -42,6 +42,20 @@ terms_of kind bids m = record {
   fall = option_map (λ ramp. 5 * ramp) (unless_zero m.ramp_down);
   offers = offers_from kind m 0 bids;
 }
+
+-- The six powers of an offer are at most 4,000,000 kW.
+abbrev pub in_bounds : Offer → Bool
+in_bounds offer =
+    nat_le offer.bid_availability 4000000
+    && nat_le offer.upper_run 4000000
+    && nat_le offer.lower_run 4000000
+    && nat_le offer.enablement_min 4000000
+    && nat_le offer.enablement_max 4000000
+    && nat_le offer.max_availability 4000000
+
+abbrev pub all_in_bounds : List Offer → Bool
+all_in_bounds [] = true
+all_in_bounds (offer ∷ more) = in_bounds offer && all_in_bounds more
 
 -- The bids of checked bids.
 abbrev pub held_bids : List (Option CheckedBid) → List (Option Bid)

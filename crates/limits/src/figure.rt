@@ -106,9 +106,9 @@ pub fn figures<P: PlantLimit>(
         return None;
     }
     let mut table = [Figure::default(); 10];
-    for service in SERVICES {
+    for service in &SERVICES {
         let place = service.number() as usize;
-        table[place] = settle(terms, row, plant, service, best[place]);
+        table[place] = settle(terms, row, plant, *service, best[place]);
     }
     Some(table)
 }

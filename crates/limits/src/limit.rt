@@ -1,7 +1,7 @@
 // The limits of a row, in their order.
-ghost use Rattle.std.specs.Prelude.{◌≡◌, ◌≤◌, Some, pos, ◌+ℤ◌, ◌-ℤ◌, ◌*ℤ◌};
+ghost use Rattle.std.specs.Prelude.{◌≡◌, ◌≤◌, IfSome, Some, pos, ◌+ℤ◌, ◌-ℤ◌, ◌*ℤ◌};
 ghost use Rattle.std.specs.Option.{option_or};
-ghost use Rattle.limits.specs.Bounds.{Bounded, BoundedIf, Moved, Product};
+ghost use Rattle.limits.specs.Bounds.{Bounded, BoundedIf, Moved, Powers, Product};
 ghost use Rattle.fcas.specs.Service.{regulating};
 ghost use Rattle.limits.specs.Narrowing.{first_of_row};
 ghost use Rattle.limits.specs.Limit.{breaks, exceeded, Finds, FindsBefore, limit_by, limit_number, limits_of, lowered as lowered_energy, lower_sides, offer_at, raised as raised_energy, sides_of, upper_sides, while_live};
@@ -38,11 +38,11 @@ impl Sides {
     }
 }
 
-// What is no service does not regulate. A number is asked for, here and below, since a Limit holds one.
+// What is no service does not regulate. A number is asked for, here and below, since a Limit holds one; to make a Service of it was dearer.
 pub(crate) fn is_regulating(service: u8) -> bool
     ensures { result ≡ regulating service }
 {
-    Service::try_from(u32::from(service)).is_ok_and(|service| service.is_regulating())
+    (service == Service::RaiseReg.number()) | (service == Service::LowerReg.number())
 }
 
 impl Limit {
@@ -86,41 +86,38 @@ impl Limit {
 
 // A power times an energy or an amount.
 // How large the parts of a limit can be is a clause, here and below: Sides is public and takes any, and a type for an energy that moved would be opened in the next line.
-fn times(power: Power, at: i64) -> i64
-    requires { Moved at }
+fn times(power: u32, at: i64) -> i64
+    requires power { power ≤ 4000000 }
+    requires at { Moved at }
     ensures value { result ≡ pos power *ℤ at }
     ensures bound { Product result }
 {
-    i64::from(power.get()) * at
+    i64::from(power) * at
 }
 
 // The sides of an upper limit at an energy.
 fn upper_sides(offer: &Offer, energy: i64, amount: Power) -> Sides
-    requires { Moved energy }
+    requires powers { Powers offer.now }
+    requires energy { Moved energy }
     ensures value { result ≡ upper_sides offer.now energy amount }
     ensures bound { Bounded result }
 {
     Sides {
         lesser: times(offer.bid_availability, energy)
             + times(offer.upper_run, i64::from(amount.get())),
-        greater: times(
-            offer.bid_availability,
-            i64::from(offer.enablement_max.get()),
-        ),
+        greater: times(offer.bid_availability, i64::from(offer.enablement_max)),
     }
 }
 
 // The sides of a lower limit at an energy: the mirror of the upper, of which each sign and side is another.
 fn lower_sides(offer: &Offer, energy: i64, amount: Power) -> Sides
-    requires { Moved energy }
+    requires powers { Powers offer.now }
+    requires energy { Moved energy }
     ensures value { result ≡ lower_sides offer.now energy amount }
     ensures bound { Bounded result }
 {
     Sides {
-        lesser: times(
-            offer.bid_availability,
-            i64::from(offer.enablement_min.get()),
-        ),
+        lesser: times(offer.bid_availability, i64::from(offer.enablement_min)),
         greater: times(offer.bid_availability, energy)
             - times(offer.lower_run, i64::from(amount.get())),
     }
@@ -130,22 +127,19 @@ impl CheckedTerms {
     // What a service has to offer; nothing where it is none.
     pub(crate) fn offer(&self, service: u8) -> Offer
         ensures value { result ≡ offer_at self.now.terms service }
-        ensures most { result.max_availability ≤ 4000000 }
+        ensures powers { Powers result }
     {
-        let offer = self
-            .terms
+        self.terms
             .offers
             .get(service as usize)
             .copied()
-            .unwrap_or(NO_OFFER);
-        // The one bound that the figures' proof reads of an offer.
-        prove!(offer.max_availability.get() <= 4_000_000);
-        offer
+            .unwrap_or(NO_OFFER)
     }
 
     // What a live service has to offer; nothing where the service is not live.
     fn live_offer(&self, service: u8) -> Option<Offer>
-        ensures { result ≡ while_live (offer_at self.now.terms service) (Some (offer_at self.now.terms service)) }
+        ensures value { result ≡ while_live (offer_at self.now.terms service) (Some (offer_at self.now.terms service)) }
+        ensures powers { IfSome result Powers }
     {
         let offer = self.offer(service);
         if offer.is_live() { Some(offer) } else { None }
@@ -176,7 +170,7 @@ impl CheckedTerms {
         let offer = self.live_offer(service)?;
         Some(Sides {
             lesser: i64::from(row.amount(service).get()),
-            greater: i64::from(offer.max_availability.get()),
+            greater: i64::from(offer.max_availability),
         })
     }
 
@@ -208,19 +202,21 @@ impl CheckedTerms {
     }
 
     // What the ramp upward reaches.
-    fn highest(&self, rise: Power) -> i64
+    fn highest(&self, rise: u32) -> i64
+        requires { rise ≤ 4000000 }
         ensures value { result ≡ self.now.terms.initial +ℤ pos rise }
         ensures bound { Moved result }
     {
-        i64::from(self.terms.initial) + i64::from(rise.get())
+        i64::from(self.terms.initial) + i64::from(rise)
     }
 
     // What the ramp downward reaches: the other sign, and one line of its own.
-    fn lowest(&self, fall: Power) -> i64
+    fn lowest(&self, fall: u32) -> i64
+        requires { fall ≤ 4000000 }
         ensures value { result ≡ self.now.terms.initial -ℤ pos fall }
         ensures bound { Moved result }
     {
-        i64::from(self.terms.initial) - i64::from(fall.get())
+        i64::from(self.terms.initial) - i64::from(fall)
     }
 
     pub(crate) fn ramp_up_sides(&self, row: &CheckedRow) -> Option<Sides>

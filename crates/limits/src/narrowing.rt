@@ -67,18 +67,18 @@ impl CheckedTerms {
             Limit::Availability(own) => u32::from(service == own),
             Limit::Upper(own) => {
                 if service == own {
-                    self.offer(own).upper_run.get()
+                    self.offer(own).upper_run
                 } else if !is_regulating(own) & (service == self.terms.kind.upward().number()) {
-                    self.offer(own).bid_availability.get()
+                    self.offer(own).bid_availability
                 } else {
                     0
                 }
             }
             Limit::Lower(own) => {
                 if service == own {
-                    self.offer(own).lower_run.get()
+                    self.offer(own).lower_run
                 } else if !is_regulating(own) & (service == self.terms.kind.downward().number()) {
-                    self.offer(own).bid_availability.get()
+                    self.offer(own).bid_availability
                 } else {
                     0
                 }
@@ -114,6 +114,8 @@ fn narrow_place(best: &mut [Best; 10], service: u8, cap: Option<u32>, limit: Lim
 
 impl CheckedTerms {
     // What a limit makes of the least so far of one service.
+    // With this hint each call knows which limit it asks, and asks nothing else.
+    #[inline(always)]
     pub(crate) fn narrow(
         &self,
         row: &CheckedRow,
@@ -140,6 +142,8 @@ impl CheckedTerms {
     }
 
     // What a limit makes of the least so far of every service; nothing where the row breaks the limit. At most two services take from its room: its own and the joint one.
+    // With a hint as at `narrow`.
+    #[inline(always)]
     fn narrow_all(&self, row: &CheckedRow, limit: Limit, best: &mut [Best; 10]) -> Option<()>
         ensures { NarrowedAll self.now.terms row.now.row limit best.old best.new result }
     {
@@ -171,16 +175,17 @@ impl CheckedTerms {
 
 impl CheckedTerms {
     // The first least cap on a service of all limits but the plant's; nothing where the row exceeds one of them.
-    // Both loops go by the number, as `Limit::of_service` is asked.
+    // The loop goes by the number, here and below, as `Limit::of_service` is asked.
     pub(crate) fn least(&self, row: &CheckedRow, service: Service) -> Option<Best>
         ensures { Least self.now.terms row.now.row (service_number service) result }
     {
         let number = service.number();
         let mut best = WIDEST;
         for own in 0..10u8 {
-            for limit in Limit::of_service(own) {
-                best = self.narrow(row, limit, number, best)?;
-            }
+            let [availability, upper, lower] = Limit::of_service(own);
+            best = self.narrow(row, availability, number, best)?;
+            best = self.narrow(row, upper, number, best)?;
+            best = self.narrow(row, lower, number, best)?;
         }
         best = self.narrow(row, Limit::RampUp, number, best)?;
         self.narrow(row, Limit::RampDown, number, best)
@@ -192,9 +197,10 @@ impl CheckedTerms {
     {
         let mut best = [WIDEST; 10];
         for own in 0..10u8 {
-            for limit in Limit::of_service(own) {
-                self.narrow_all(row, limit, &mut best)?;
-            }
+            let [availability, upper, lower] = Limit::of_service(own);
+            self.narrow_all(row, availability, &mut best)?;
+            self.narrow_all(row, upper, &mut best)?;
+            self.narrow_all(row, lower, &mut best)?;
         }
         self.narrow_all(row, Limit::RampUp, &mut best)?;
         self.narrow_all(row, Limit::RampDown, &mut best)?;

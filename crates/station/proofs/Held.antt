@@ -171,11 +171,11 @@ module _ (allowed : Row → Bool) (row : UnitRow) (unit : ℕ) where
         )
 
     module _ (asked : Row) (is : asked ≡ plant_row unit (energy_of row.state) row) where
-      is_borne : BearsRow allowed unit (entry_of row) → Borne (breaks allowed row.terms.terms asked)
+      pub is_borne : BearsRow allowed unit (entry_of row) → Borne (breaks allowed row.terms.terms asked)
       is_borne bears = subst (λ (t : Terms). Borne (breaks allowed t asked)) (sym fixed) (subst (λ (r : Row). Borne (breaks allowed fixed_terms r)) (sym (is ∙ held_row_lem))
           (subst (BearsRow allowed unit) row_is_open bears (row_held row none).1))
 
-      figure_given : (service : ℕ) (given : Figure) → FigureAt allowed row.terms.terms asked service given → FigureIn allowed unit service (entry_of row) given
+      pub figure_given : (service : ℕ) (given : Figure) → FigureAt allowed row.terms.terms asked service given → FigureIn allowed unit service (entry_of row) given
       figure_given service given f = subst (λ (x : Option Entry). FigureIn allowed unit service x given) (sym row_is_open)
           (subst (λ (r : Row). FigureAt allowed fixed_terms r service given) (is ∙ held_row_lem) (subst (λ (t : Terms). FigureAt allowed t asked service given) fixed f))
 

@@ -10,7 +10,7 @@ use crate::call::{Answer, Call};
 use crate::pass::{Pass, PassNumbers, Returned};
 use crate::row::UnitRow;
 use crate::station::Station;
-use fcas::{AgcStatus, CheckedReading, Kind, Measured, NO_POWER, Opening};
+use fcas::{AgcStatus, CheckedReading, Kind, Measured, Opening};
 use limits::{CheckedTerms, Figure, PlantLimit};
 use states::{Refusal, State};
 use std::alloc::{AllocError, Global};
@@ -27,7 +27,7 @@ impl UnitRow {
                 ramp_up: None,
                 ramp_down: None,
                 uigf: None,
-                energy_max: NO_POWER,
+                energy_max: 0,
                 agc_status: AgcStatus::NotTold,
             },
         };

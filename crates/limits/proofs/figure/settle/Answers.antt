@@ -13,7 +13,7 @@ returns g c =
     let held = subst (λ (s : ℕ). Held (exceeded_with c.args.terms.now.terms c.args.row.now.row s) 32 c.args.best) (sym named) c.requires.held in
     let live = is_live _ _ c.offer.ensures.value (sym c.is_live.ensures ∙ c.if-not-is_live.false) in
     let bound = live_bound (g.P.PlantLimit.allowed c.args.plant.now) c.args.terms.now.terms c.args.row.now.row n within c.args.terms.now.ten 32 c.args.best c.number-number.ensures.one_of_ten (omega arith) live held in
-    let most = subst (λ (o : Offer). o.max_availability ≤ 4000000) c.offer.ensures.value c.offer.ensures.most in
+    let most = subst (λ (o : Offer). o.max_availability ≤ 4000000) c.offer.ensures.value c.offer.ensures.powers.effective in
     let small : c.args.best.most ≤ 4000000 = omega (arith, bound, most) in
     let greatest = settled (g.P.PlantLimit.allowed c.args.plant.now) c.args.terms.now.terms c.args.row.now.row n within c.args.terms.now.ten
     (λ r a. g.met.P.PlantLimit.lowering c.args.plant.now r n a) c.args.best small held c.in-Some.most c.in-Some.ensures.1 in

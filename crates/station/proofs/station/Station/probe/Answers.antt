@@ -1,10 +1,10 @@
-use Rattle.std.proofs.Common.{sym, rules}
+use Rattle.std.proofs.Common.{sym}
 use Rattle.fcas.specs.Service.{service_number}
 use Rattle.station.proofs.ByPass.{probe_turn, unknown_probe}
 use Rattle.station.proofs.station.Station.probe.Goals as goal
 
 pub returns-in_err-unit : goal.returns-in_err-unit
-returns-in_err-unit g c = search (rules, unknown_probe)
+returns-in_err-unit g c = unknown_probe g.P.PlantLimit.allowed c.args.self.now c.args.pass.now.numbers c.args.service c.args.energy c.from_residual-in_err-unit.result c.in_err-unit.field-0.0 c.in_ok-service.ensures.0 c.in_ok-energy.ensures.0 c.from_residual-in_err-unit.ensures.1 c.in_err-unit.ensures
 
 pub returns : goal.returns
 returns g c = rw (sym c.in_ok-service.ensures.1, sym c.in_ok-energy.ensures.1)
