@@ -1,5 +1,6 @@
 // An answer of the station to the bytes of its line.
 // Bytes by hand: `write!` was tried, takes a fifth more instructions, and misses the bar of speed in docs/DECISIONS.md.
+use crate::fault::Fault;
 use fcas::Trapezium;
 use limits::Figure;
 use numerals::put_number;
@@ -110,6 +111,14 @@ fn put_words(answer: &Answer, out: &mut Vec<u8>) -> Result<(), AllocError> {
 // The line that answers a call.
 pub(crate) fn put_answer(answer: &Answer, out: &mut Vec<u8>) -> Result<(), AllocError> {
     put_words(answer, out)?;
+    out.push(b'\n')?;
+    Ok(())
+}
+
+// The line that answers what is no call.
+pub(crate) fn put_error(fault: Fault, out: &mut Vec<u8>) -> Result<(), AllocError> {
+    out.extend_from_slice(b"error ")?;
+    out.extend_from_slice(fault.words().as_bytes())?;
     out.push(b'\n')?;
     Ok(())
 }

@@ -6,35 +6,44 @@ use thiserror::Error;
 
 // The line cannot be read.
 #[derive(Clone, Copy, Debug, Error)]
+#[error("{}", self.words())]
 pub enum Fault {
-    #[error(transparent)]
     TooLong(#[from] TooLong),
-    #[error("the first word is unknown")]
     UnknownCommand,
-    #[error("there are too few words")]
     TooFewWords,
-    #[error("there are too many words")]
     TooManyWords,
-    #[error("a word is not a whole number below 2^64")]
     NotWhole,
-    #[error("a number of a plant is not below 2^32")]
     TooWide,
-    #[error("a word is not a decimal number")]
     NotFloat,
-    #[error("a word is neither a number nor the name of a kind")]
     NoKind,
-    #[error("a word is neither a number nor the name of a service")]
     NoService,
-    #[error("a word is not the name of a plant limit")]
     NoPlant,
-    #[error("a word is not a pass, three whole numbers with colons between")]
     NoPass,
-    #[error("the number of a station is not below 2^32")]
     WideStation,
-    #[error("there is no station yet")]
     NoStation,
-    #[error("there is a station already")]
     SecondStation,
+}
+
+impl Fault {
+    // What Display writes, as a text whose bytes an answer appends.
+    pub(crate) fn words(self) -> &'static str {
+        match self {
+            Fault::TooLong(too_long) => too_long.words(),
+            Fault::UnknownCommand => "the first word is unknown",
+            Fault::TooFewWords => "there are too few words",
+            Fault::TooManyWords => "there are too many words",
+            Fault::NotWhole => "a word is not a whole number below 2^64",
+            Fault::TooWide => "a number of a plant is not below 2^32",
+            Fault::NotFloat => "a word is not a decimal number",
+            Fault::NoKind => "a word is neither a number nor the name of a kind",
+            Fault::NoService => "a word is neither a number nor the name of a service",
+            Fault::NoPlant => "a word is not the name of a plant limit",
+            Fault::NoPass => "a word is not a pass, three whole numbers with colons between",
+            Fault::WideStation => "the number of a station is not below 2^32",
+            Fault::NoStation => "there is no station yet",
+            Fault::SecondStation => "there is a station already",
+        }
+    }
 }
 
 // The line cannot be read, or what it hands over is refused.

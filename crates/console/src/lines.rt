@@ -1,7 +1,8 @@
 // Lines of bytes, read in chunks and handed to a session one by one. Memory does not grow with the input.
-ghost use Rattle.std.specs.Prelude.{◌≤◌, vec_len};
+ghost use Rattle.std.specs.Prelude.{◌≤◌, length, IfOk};
 
-use std::alloc::{AllocError, Global};
+use arrayvec::ArrayVec;
+use std::alloc::Global;
 use std::io;
 use std::io::{ErrorKind, Read, Write};
 use thiserror::Error;
@@ -13,8 +14,14 @@ const LONGEST: usize = 65536;
 
 // What is handed on in place of a line that is longer.
 #[derive(Clone, Copy, Debug, Error)]
-#[error("the line is too long")]
+#[error("{}", self.words())]
 pub struct TooLong;
+
+impl TooLong {
+    pub(crate) fn words(self) -> &'static str {
+        "the line is too long"
+    }
+}
 
 // What answers lines: each line in turn, and then the end of the input.
 pub trait Session {
@@ -52,21 +59,19 @@ enum Stage {
     TooLong,
 }
 
-// The front of a line that a chunk broke off.
+// The front of a line that a chunk broke off. It has room for the longest line by its type, and never asks for more.
 #[derive(Drop)]
 struct Partial {
-    text: Vec<u8>,
+    text: ArrayVec<u8, LONGEST>,
     stage: Stage,
-    ghost within: { vec_len text ≤ 65536 },
 }
 
 impl Partial {
-    // It has room for the longest line, and never takes more.
-    fn new(heap: Global) -> Result<Partial, AllocError> {
-        Ok(Partial {
-            text: Vec::with_capacity(heap, LONGEST)?,
+    fn new() -> Partial {
+        Partial {
+            text: ArrayVec::new(),
             stage: Stage::NotBegun,
-        })
+        }
     }
 
     fn clear(&mut self) {
@@ -75,23 +80,20 @@ impl Partial {
     }
 
     // Adds a byte, but for a blank that would add nothing to the line.
-    fn add_byte(&mut self, byte: u8) -> Result<(), AllocError> {
-        let is_full = self.text.len() == LONGEST;
-        if is_blank(&byte) && (is_full || self.text.last().is_none_or(is_blank)) {
-            return Ok(());
+    fn add_byte(&mut self, byte: u8) {
+        let text = self.text.as_slice();
+        if is_blank(&byte) && (self.text.is_full() || text.last().is_none_or(is_blank)) {
+            return;
         }
-        if is_full {
+        if self.text.try_push(byte).is_err() {
             self.stage = Stage::TooLong;
-            return Ok(());
         }
-        self.text.push(byte)?;
-        Ok(())
     }
 
     // Adds a piece. A comment is let go, and so is what has no room.
-    fn add(&mut self, piece: &[u8]) -> Result<(), AllocError> {
+    fn add(&mut self, piece: &[u8]) {
         if piece.is_empty() || matches!(self.stage, Stage::Comment | Stage::TooLong) {
-            return Ok(());
+            return;
         }
         let (text, stage) = match split_once(piece, b'#') {
             Some((text, _)) => (text, Stage::Comment),
@@ -99,9 +101,8 @@ impl Partial {
         };
         self.stage = stage;
         for byte in text {
-            self.add_byte(*byte)?;
+            self.add_byte(*byte);
         }
-        Ok(())
     }
 
     fn line(&self) -> Result<&[u8], TooLong> {
@@ -127,19 +128,21 @@ fn take_chunk<S: Session>(
                 if partial.stage == Stage::NotBegun {
                     session.take(Ok(uncommented(without_return(line))), out)?;
                 } else {
-                    partial.add(line)?;
+                    partial.add(line);
                     session.take(partial.line(), out)?;
                     partial.clear();
                 }
             }
-            front => partial.add(front)?,
+            front => partial.add(front),
         }
     }
     Ok(())
 }
 
 // What one read gives, made again where a signal interrupts it.
-fn read_chunk<'a, R: Read>(input: &mut R, buffer: &'a mut [u8]) -> io::Result<&'a [u8]> {
+fn read_chunk<'a, R: Read>(input: &mut R, buffer: &'a mut [u8; CHUNK]) -> io::Result<&'a [u8]>
+    ensures { IfOk result (λ chunk. length chunk.now ≤ 65536) }
+{
     // A loop that ends, since one without an end would be waiting, and is kept apart in the language.
     for _ in 0..u64::MAX {
         match input.read(buffer) {
@@ -164,7 +167,7 @@ pub fn run<S: Session, R: Read, W: Write>(
     heap: Global,
 ) -> io::Result<()> {
     let mut buffer = [0u8; CHUNK];
-    let mut partial = Partial::new(heap)?;
+    let mut partial = Partial::new();
     let mut out = Vec::with_capacity(heap, CHUNK)?;
     // A loop that ends, as in `read_chunk`.
     for _ in 0..u64::MAX {

@@ -6,7 +6,6 @@ use crate::lines::is_blank;
 use fcas::{Bid, Kind, Reading, Service};
 use numerals::whole;
 use plants::{Bare, Both, ConnectionCap, GovernorShare, PlantChoice};
-use std::array;
 use std::str::from_utf8;
 
 #[derive(Drop)]
@@ -134,8 +133,13 @@ impl<'a> Words<'a> {
     }
 
     // Ten numbers: the bands of a bid, or the amounts of a row.
+    // Filled in place: `array::try_from_fn` was tried, and takes a fifth more instructions.
     pub(crate) fn ten(&mut self) -> Result<[u32; 10], Fault> {
-        array::try_from_fn(|_| self.number())
+        let mut numbers = [0; 10];
+        for number in &mut numbers {
+            *number = self.number()?;
+        }
+        Ok(numbers)
     }
 
     // An energy; one that 31 bits do not hold is above every range, and so is what stands for it.
@@ -144,7 +148,10 @@ impl<'a> Words<'a> {
     }
 
     fn caps(&mut self) -> Result<ConnectionCap, Fault> {
-        let caps = array::try_from_fn(|_| self.narrow(Fault::TooWide))?;
+        let mut caps = [0; 24];
+        for cap in &mut caps {
+            *cap = self.narrow(Fault::TooWide)?;
+        }
         Ok(ConnectionCap { caps })
     }
 

@@ -1,5 +1,5 @@
 // A station that is called line by line.
-use crate::answers::put_answer;
+use crate::answers::{put_answer, put_error};
 use crate::calls::read_call;
 use crate::fault::Fault;
 use crate::lines::{Session, TooLong};
@@ -7,7 +7,6 @@ use crate::parse::Words;
 use plants::PlantChoice;
 use station::{Answer, Station};
 use std::io;
-use std::io::Write;
 
 // The station is made by the first line that says so.
 #[derive(Drop)]
@@ -58,7 +57,7 @@ impl Session for Server {
         match self.answer(line) {
             Ok(None) => Ok(()),
             Ok(Some(answer)) => Ok(put_answer(&answer, out)?),
-            Err(fault) => writeln!(out, "error {fault}"),
+            Err(fault) => Ok(put_error(fault, out)?),
         }
     }
 
