@@ -6,7 +6,7 @@ use itoa::Buffer;
 use std::alloc::AllocError;
 
 // Appends the digits of a number.
-#[tactic(auto, using(crate::proofs::Places::is_decimal))]
+#[tactic(auto, using(crate::proofs::Places::is_decimal, crate::proofs::Places::one_digit))]
 pub fn put_number(number: u64, out: &mut Vec<u8>) -> Result<(), AllocError>
     ensures { out.new.items ≡ (if is_ok result then out.old.items ++ spelling_of number else out.old.items) }
 {
