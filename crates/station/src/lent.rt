@@ -49,6 +49,7 @@ impl UnitRow {
         Ok(())
     }
 
+    #[tactic(auto, using(crate::proofs::Rows::held_set))]
     pub(crate) fn bid(&mut self, service: Service, bid: CheckedBid) -> Result<(), Refusal>
         ensures { Lent (idle_faults (entry_of self.old)) (option_map (with_bid (service_number service) (Some bid.bid)) (entry_of self.old)) self.old self.new result }
     {
@@ -63,6 +64,7 @@ impl UnitRow {
         self.bids[service.number() as usize].is_some()
     }
 
+    #[tactic(auto, using(crate::proofs::Rows::held_set))]
     pub(crate) fn withdraw(&mut self, service: Service) -> Result<(), Refusal>
         ensures { Lent (idle_faults (entry_of self.old) ++ ((26, not (is_some (bid_of (entry_of self.old) (service_number service)))) ∷ [])) (option_map (with_bid (service_number service) None) (entry_of self.old)) self.old self.new result }
     {
